@@ -1,0 +1,1 @@
+// Whole numbers and lists: definitions (specs/) and laws (proofs/), no code.

@@ -1,0 +1,144 @@
+-- The laws of asking: what each return of a check shows (`search asking`), and what an accepted call knows. Assumes nothing.
+use Prim.Native.Nat.{ℕ, zero, suc, _+_, _*_, _≤_, _<_, max}
+use mathlib.Core.Path.{_≡_, refl, ap, _∙_, sym}
+use mathlib.Core.Bool.{Bool, true, false, cond, _&&_, and-assoc}
+use mathlib.Core.List.{List, [], _∷_, _++_}
+use native.Mathlib.Decide.{decLe}
+use native.Mathlib.Nat.{le-trans, mul-le-mul}
+use native.Mathlib.Numerals.{add-one}
+use native.Mathlib.Omega.{arith}
+use lib.Dec.{T, leb, eqb, le→leb, leb→le}
+use lib.ListN.{length, drop, getD, drop-of-length-le}
+use lib.Seq.{drop-cons}
+use mir.Val.{Fits}
+use mir.Syntax.{w64}
+use borrow.Author.Tests.{le-leb, lt-leb, eq-eqb, ne-eqb, leb-true}
+use Rattle.integers.proofs.Tests.{is-true, never, and-left, and-right, both, same-test}
+use Rattle.questions.specs.Questions.{Question, question, ask, between, all-at-most, size-questions, shape-questions, settings-questions}
+
+-- ---- at a return
+pub ask-end : 0 ≡ ask []
+unfolding ask
+ask-end = refl
+
+pub ask-no : (b : Bool) (k : ℕ) (qs : List Question) → b ≡ false → k ≡ ask (question k b ∷ qs)
+unfolding ask
+ask-no b k qs e = sym (ap (λ (x : Bool). cond x (ask qs) k) e)
+
+pub ask-yes : (b : Bool) (n k : ℕ) (qs : List Question) → b ≡ true → n ≡ ask qs → n ≡ ask (question k b ∷ qs)
+unfolding ask
+ask-yes b n k qs e p = p ∙ sym (ap (λ (x : Bool). cond x (ask qs) k) e)
+
+pub between-yes : (low high n : ℕ) → low ≤ n → n ≤ high → between low high n ≡ true
+unfolding between
+between-yes low high n a b = simp (le-leb low n a, le-leb n high b)
+
+pub between-low : (low high n : ℕ) → n < low → between low high n ≡ false
+unfolding between
+between-low low high n a = simp (lt-leb low n a)
+
+pub between-high : (low high n : ℕ) → high < n → between low high n ≡ false
+unfolding between
+between-high low high n a = either (leb low n)
+  where
+    either : (b : Bool) → (b && leb n high) ≡ false
+    either true = lt-leb n high a
+    either false = refl
+
+pub ruleset asking = (ask-end, ask-no, ask-yes, between-yes, between-low, between-high, le-leb, lt-leb, eq-eqb, ne-eqb, arith)
+
+-- ---- all answered yes
+abbrev pub AllYes : List Question → Type 0
+AllYes [] = Unit
+AllYes (q ∷ qs) = (q .yes ≡ true) × AllYes qs
+
+-- no question is numbered 0: at a call's own list, `tt`
+abbrev pub numbered : List Question → Bool
+numbered [] = true
+numbered (q ∷ qs) = cond (eqb (q .number) 0) false (numbered qs)
+
+pub all-yes : (qs : List Question) → T (numbered qs) → ask qs ≡ 0 → AllYes qs
+unfolding ask
+all-yes [] t e = tt
+all-yes (q ∷ qs) t e = let p = first (q .yes) (eqb (q .number) 0) refl t e in (p .0, all-yes qs (p .1) (p .2))
+  where
+    first : (b z : Bool) → eqb (q .number) 0 ≡ z → T (cond z false (numbered qs)) → cond b (ask qs) (q .number) ≡ 0 → (b ≡ true) × T (numbered qs) × (ask qs ≡ 0)
+    first b true f t e = absurd t
+    first true false f t e = (refl, t, e)
+    first false false f t e = never (sym (eq-eqb (q .number) 0 e) ∙ f)
+
+pub ask-zero : (qs : List Question) → AllYes qs → ask qs ≡ 0
+ask-zero [] y = sym ask-end
+ask-zero (q ∷ qs) y = sym (ask-yes (q .yes) 0 (q .number) qs (y .0) (sym (ask-zero qs (y .1))))
+
+-- ---- a list of questions and then another
+-- a no among the first
+pub ask-first : (ps qs : List Question) (n : ℕ) → n ≡ ask ps → (n ≡ 0 → ⊥) → n ≡ ask (ps ++ qs)
+unfolding ask
+ask-first [] qs n e h = absurd (h e)
+ask-first (p ∷ ps) qs n e h = either (p .yes) e (λ f. ask-first ps qs n f h)
+  where
+    either : (b : Bool) → n ≡ cond b (ask ps) (p .number) → (n ≡ ask ps → n ≡ ask (ps ++ qs)) → n ≡ cond b (ask (ps ++ qs)) (p .number)
+    either true e f = f e
+    either false e f = e
+
+pub ask-later : (ps qs : List Question) (n : ℕ) → AllYes ps → n ≡ ask qs → n ≡ ask (ps ++ qs)
+ask-later [] qs n y e = e
+ask-later (p ∷ ps) qs n y e = ask-yes (p .yes) n (p .number) (ps ++ qs) (y .0) (ask-later ps qs n (y .1) e)
+
+-- ---- what a yes says
+pub between-is : (low high n : ℕ) → between low high n ≡ true → (low ≤ n) × (n ≤ high)
+unfolding between
+between-is low high n e = go (leb low n) refl
+  where
+    go : (b : Bool) → leb low n ≡ b → (low ≤ n) × (n ≤ high)
+    go true p = (leb-true low n p, leb-true n high (ap (λ (b : Bool). b && leb n high) (sym p) ∙ e))
+    go false p = never (sym e ∙ ap (λ (b : Bool). b && leb n high) p)
+
+-- the number of a frame's samples is small
+pub area-bound : {w h : ℕ} → w ≤ 2048 → h ≤ 2048 → w * h ≤ 4194304
+area-bound a b = mul-le-mul a b
+
+-- the sizes of a frame, where 1, 2 and 3 are answered yes
+pub record Shape (w h l : ℕ) : Type 0 where
+  pub width-from : 2 ≤ w
+  pub width-to : w ≤ 2048
+  pub height-from : 2 ≤ h
+  pub height-to : h ≤ 2048
+  pub layout-to : l ≤ 3
+  pub area : w * h ≤ 4194304
+
+pub shape-is : (w h l : ℕ) → AllYes (shape-questions w h l) → Shape w h l
+shape-is w h l y =
+    let p = between-is 2 2048 w (y .0) in
+    let q = between-is 2 2048 h (y .1 .0) in
+    record {
+      width-from = p .0;
+      width-to = p .1;
+      height-from = q .0;
+      height-to = q .1;
+      layout-to = leb-true l 3 (y .1 .1 .0);
+      area = area-bound (p .1) (q .1);
+    }
+
+-- ---- the scan: the largest so far, and what is left from place i on
+leb-max : (a b m : ℕ) → leb (max a b) m ≡ (leb a m && leb b m)
+leb-max a b m =
+    same-test (leb (max a b) m) (leb a m && leb b m)
+    (λ t. let l : max a b ≤ m = leb→le (max a b) m t in both (leb a m) (leb b m) (le→leb a m (omega arith)) (le→leb b m (omega arith)))
+    (λ t. let p : a ≤ m = leb→le a m (and-left (leb a m) (leb b m) t) in let q : b ≤ m = leb→le b m (and-right (leb a m) (leb b m) t) in le→leb (max a b) m (omega arith))
+
+pub scan-more : (m most : ℕ) (l : List ℕ) (i : ℕ) → i < length l → (leb (max most (getD l i 0)) m && all-at-most m (drop (i + 1) l)) ≡ (leb most m && all-at-most m (drop i l))
+unfolding all-at-most
+scan-more m most l i h =
+    ap (λ (b : Bool). b && all-at-most m (drop (i + 1) l)) (leb-max most (getD l i 0) m)
+    ∙ and-assoc (leb most m) (leb (getD l i 0) m) (all-at-most m (drop (i + 1) l))
+    ∙ ap (λ (b : Bool). leb most m && b) (sym (rw (drop-cons l i 0 h, add-one) refl))
+
+pub scan-end : (m most : ℕ) (l : List ℕ) (i : ℕ) → length l ≤ i → (leb most m && all-at-most m (drop i l)) ≡ leb most m
+unfolding all-at-most
+scan-end m most l i h = rw (drop-of-length-le l {i = i} h) (and-true (leb most m))
+  where
+    and-true : (b : Bool) → (b && true) ≡ b
+    and-true true = refl
+    and-true false = refl

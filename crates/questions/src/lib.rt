@@ -1,0 +1,69 @@
+// Inner: the checks that calls share. Each answers the number of the first question answered no, or 0.
+ghost use mathlib.Core.Path.{_≡_};
+ghost use Prim.Native.Nat.{max};
+ghost use Rattle.questions.specs.Questions.{ask, all-at-most, size-questions, shape-questions, settings-questions};
+
+// Questions 1 and 2, from `least` on.
+pub fn sizes(least: usize, width: usize, height: usize) -> u32
+    ensures { λ r. ⌜ r ≡ ask (size-questions least width height) ⌝ }
+{
+    if width < least {
+        return 1;
+    }
+    if 2048 < width {
+        return 1;
+    }
+    if height < least {
+        return 2;
+    }
+    if 2048 < height {
+        return 2;
+    }
+    0
+}
+
+// Questions 1, 2 and 3 of a frame.
+pub fn shape(width: usize, height: usize, layout: u8) -> u32
+    ensures { λ r. ⌜ r ≡ ask (shape-questions width height layout) ⌝ }
+{
+    let number = sizes(2, width, height);
+    if number != 0 {
+        return number;
+    }
+    if 3 < layout {
+        return 3;
+    }
+    0
+}
+
+// Questions 4 and 5.
+pub fn settings(top: u16, rounds: u8, threshold: u16) -> u32
+    ensures { λ r. ⌜ r ≡ ask (settings-questions top rounds threshold) ⌝ }
+{
+    if 64 < rounds {
+        return 4;
+    }
+    if top < threshold {
+        return 5;
+    }
+    0
+}
+
+fn larger(a: u16, b: u16) -> u16
+    ensures { λ r. ⌜ r ≡ max a b ⌝ }
+{
+    if a < b { b } else { a }
+}
+
+// Question 9: whether no sample is above `top`. A running maximum, which vectorises; a test at each sample does not.
+pub fn samples_within(top: u16, samples: &[u16]) -> bool
+    ensures { λ r. ⌜ r ≡ all-at-most top (now (samples .entry)) ⌝ }
+{
+    let mut most = 0;
+    let mut i = 0;
+    while i < samples.len() {
+        most = larger(most, samples[i]);
+        i += 1;
+    }
+    most <= top
+}

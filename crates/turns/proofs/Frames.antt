@@ -1,0 +1,193 @@
+-- Planes as lists, and turned frames: as many samples, the same values, and a turn that undoes each turn. Assumes nothing.
+use mathlib.Core.Path.{_≡_, refl, sym, _∙_, ap, subst}
+use mathlib.Core.Bool.{Bool, true, false, cond, xor}
+use mathlib.Core.List.{List, [], _∷_}
+use mathlib.Core.Logic.{_↔_}
+use Prim.Native.Nat.{ℕ, zero, suc, _+_, _*_, _-_, _/_, _%_, _≤_, _<_}
+use native.Mathlib.Nat.{mod-lt, div-lt-iff-lt-mul, mul-comm, suc-mul, zero-mul, mul-le-mul-right, div-add-mod'}
+use native.Mathlib.Omega.{arith}
+use lib.Arith.{digits-div, digits-mod, digits-lt}
+use lib.ListN.{length, getD}
+use lib.Seq.{ext-getD}
+use Rattle.integers.specs.Lists.{overwrite}
+use Rattle.integers.proofs.Lists.{length-tabulate, getD-tabulate, tabulate-cong, tabulate-getD, overwrite-none, overwrite-append, overwrite-all}
+use Rattle.turns.specs.Pictures.{Picture, exchanged, left-right, top-bottom, Steps, steps-of, if-so, turned-by, turned, followed-by, bit, number-of-steps, then-another, _≈_}
+use Rattle.turns.specs.Frames.{listing, plane-of, Frame, frame, picture-of, frame-of, turn-frame}
+use Rattle.turns.proofs.Pictures.{≈-refl, ≈-sym, ≈-trans, turned-by-≈, turned-by-then, turned-then, steps-of-number}
+use Rattle.turns.proofs.Commuting.{Agree}
+
+-- ---- place k of a plane w by h
+pub width-pos : (w h k : ℕ) → k < w * h → 0 < w
+width-pos zero h k b = absurd (omega arith)
+width-pos (suc w) h k b = omega arith
+
+pub row-inside : (w h k : ℕ) → k < w * h → k / w < h
+row-inside w h k b = div-lt-iff-lt-mul (width-pos w h k b) .1 (omega (arith, mul-comm w h))
+
+pub column-inside : (w h k : ℕ) → k < w * h → k % w < w
+column-inside w h k b = mod-lt k (width-pos w h k b)
+
+pub place-inside : {w h r c : ℕ} → r < h → c < w → r * w + c < w * h
+place-inside {w} {h} {r} {c} hr hc = subst (λ (n : ℕ). r * w + c < n) (mul-comm h w) (digits-lt hr hc)
+
+-- row i and the rows before it
+pub row-room : (w h i : ℕ) → i < h → i * w + w ≤ w * h
+row-room w h i l = omega (arith, suc-mul i w, mul-le-mul-right w l, mul-comm w h)
+
+module _ {A : Type 0} where
+  pub length-listing : (w h : ℕ) (p : ℕ → ℕ → A) → length (listing w h p) ≡ w * h
+  unfolding listing
+  length-listing w h p = length-tabulate (w * h) (λ k. p (k / w) (k % w))
+
+  -- a list made of a plane holds the plane
+  pub plane-of-listing : (d : A) (w h : ℕ) (p : ℕ → ℕ → A) → Agree w h (plane-of d w (listing w h p)) p
+  unfolding plane-of listing
+  plane-of-listing d w h p r c hr hc =
+      getD-tabulate (w * h) (λ k. p (k / w) (k % w)) (r * w + c) d (place-inside hr hc) ∙ (λ i. p (digits-div r hc i) (digits-mod r hc i))
+
+  pub listing-agree : (w h : ℕ) {p q : ℕ → ℕ → A} → Agree w h p q → listing w h p ≡ listing w h q
+  unfolding listing
+  listing-agree w h e = tabulate-cong (w * h) _ _ (λ k b. e (k / w) (k % w) (row-inside w h k b) (column-inside w h k b))
+
+  -- and a list is the listing of the plane that it holds
+  pub listing-plane-of : (d : A) (w h : ℕ) (s : List A) → length s ≡ w * h → listing w h (plane-of d w s) ≡ s
+  unfolding listing plane-of
+  listing-plane-of d w h s e =
+      tabulate-cong (w * h) _ _ (λ k b. ap (λ (n : ℕ). getD s n d) (div-add-mod' k w)) ∙ tabulate-getD s (w * h) d e
+
+  -- ---- a plane laid down row by row, from place o of a list on
+  pub overwrite-no-row : (l : List A) (o w : ℕ) (f : ℕ → A) → l ≡ overwrite l o (0 * w) f
+  overwrite-no-row l o w f = overwrite-none l o f ∙ ap (λ (n : ℕ). overwrite l o n f) (sym (zero-mul w))
+
+  -- a turn of the loop: row i, at place `at`
+  pub overwrite-row : (l : List A) (o w i : ℕ) (p : ℕ → ℕ → A) (g : ℕ → A) (at : ℕ) {m : List A} → at ≡ o + i * w → o + (i * w + w) ≤ length l
+      → m ≡ overwrite l o (i * w) (λ k. p (k / w) (k % w)) → ((j : ℕ) → j < w → g j ≡ p i j)
+      → overwrite m at w g ≡ overwrite l o ((i + 1) * w) (λ k. p (k / w) (k % w))
+  overwrite-row l o w i p g at z h e f =
+      (λ k. overwrite (e k) (z k) w g)
+      ∙ overwrite-append l o (i * w) w (λ k. p (k / w) (k % w)) g h (λ j b. f j b ∙ sym (λ k. p (digits-div i b k) (digits-mod i b k)))
+      ∙ ap (λ (n : ℕ). overwrite l o n (λ k. p (k / w) (k % w))) next
+    where
+      next : i * w + w ≡ (i + 1) * w
+      next = omega (arith, suc-mul i w)
+
+  -- the whole list
+  pub overwrite-plane : (l : List A) (w h : ℕ) (p : ℕ → ℕ → A) → length l ≡ w * h → overwrite l 0 (h * w) (λ k. p (k / w) (k % w)) ≡ listing w h p
+  unfolding listing
+  overwrite-plane l w h p e = ap (λ (n : ℕ). overwrite l 0 n (λ k. p (k / w) (k % w))) (mul-comm h w) ∙ overwrite-all l (w * h) (λ k. p (k / w) (k % w)) (sym e)
+
+-- ---- frames and pictures
+pub picture-of-frame : (p : Picture ℕ) → picture-of (frame-of p) ≈ p
+unfolding picture-of frame-of
+picture-of-frame p = record { widths = refl; heights = refl; layouts = refl; places = plane-of-listing 0 (p .width) (p .height) (p .at) }
+
+pub frame-of-≈ : {p q : Picture ℕ} → p ≈ q → frame-of p ≡ frame-of q
+unfolding frame-of
+frame-of-≈ {p} {q} e =
+    (λ i. frame (p .width) (p .height) (p .layout) (listing-agree (p .width) (p .height) (e .places) i))
+    ∙ (λ i. frame (e .widths i) (e .heights i) (e .layouts i) (listing (e .widths i) (e .heights i) (q .at)))
+
+-- a frame with as many samples as places
+pub record Whole (f : Frame) : Type 0 where
+  pub count : length (f .samples) ≡ f .width * f .height
+
+pub frame-of-picture : (f : Frame) → Whole f → frame-of (picture-of f) ≡ f
+unfolding frame-of picture-of
+frame-of-picture f e = λ i. frame (f .width) (f .height) (f .layout) (listing-plane-of 0 (f .width) (f .height) (f .samples) (e .count) i)
+
+pub turned-whole : (t : ℕ) (f : Frame) → Whole (turn-frame t f)
+unfolding turn-frame frame-of
+turned-whole t f = record { count = length-listing _ _ _ }
+
+-- ---- turning twice
+pub turn-frame-then : (s t : ℕ) (f : Frame) → turn-frame t (turn-frame s f) ≡ turn-frame (then-another s t) f
+unfolding turn-frame turned
+turn-frame-then s t f =
+    frame-of-≈ (≈-trans (turned-by-≈ (steps-of t) (picture-of-frame (turned-by (steps-of s) (picture-of f)))) (turned-then s t (picture-of f)))
+
+-- the turn that undoes turn t: the same exchange, and then the mirrors that it leaves
+unfoldable pub undo : ℕ → ℕ
+undo t = let s = steps-of t in number-of-steps (record {
+  exchange = s .exchange;
+  mirror-left-right = cond (s .exchange) (s .mirror-top-bottom) (s .mirror-left-right);
+  mirror-top-bottom = cond (s .exchange) (s .mirror-left-right) (s .mirror-top-bottom);
+})
+
+pub undo-is : (t : ℕ) → then-another t (undo t) ≡ 0
+unfolding then-another undo
+undo-is t = rw (steps-of-number _) (go (steps-of t .exchange) (steps-of t .mirror-left-right) (steps-of t .mirror-top-bottom))
+  where
+    go : (e lr tb : Bool) → number-of-steps (followed-by (record { exchange = e; mirror-left-right = lr; mirror-top-bottom = tb }) (record { exchange = e; mirror-left-right = cond e tb lr; mirror-top-bottom = cond e lr tb })) ≡ 0
+    go true true true = unfold followed-by number-of-steps xor in refl
+    go true true false = unfold followed-by number-of-steps xor in refl
+    go true false true = unfold followed-by number-of-steps xor in refl
+    go true false false = unfold followed-by number-of-steps xor in refl
+    go false true true = unfold followed-by number-of-steps xor in refl
+    go false true false = unfold followed-by number-of-steps xor in refl
+    go false false true = unfold followed-by number-of-steps xor in refl
+    go false false false = unfold followed-by number-of-steps xor in refl
+
+pub turn-back : (t : ℕ) (f : Frame) → Whole f → turn-frame (undo t) (turn-frame t f) ≡ f
+turn-back t f e = turn-frame-then t (undo t) f ∙ ap (λ (u : ℕ). turn-frame u f) (undo-is t) ∙ none
+  where
+    none : turn-frame 0 f ≡ f
+    none = unfold turn-frame turned turned-by steps-of in frame-of-picture f e
+
+-- ---- the same values
+-- v is one of the samples
+pub record Among (s : List ℕ) (v : ℕ) : Type 0 where
+  pub place : ℕ
+  pub inside : place < length s
+  pub holds : getD s place 0 ≡ v
+
+abbrev pub Every : {A : Type 0} → (A → Type 0) → Picture A → Type 0
+Every P p = (r c : ℕ) → r < p .height → c < p .width → P (p .at r c)
+
+-- what holds at every place of a picture holds at every place of it turned
+pub every-turned : {A : Type 0} (P : A → Type 0) (t : ℕ) (p : Picture A) → Every P p → Every P (turned t p)
+unfolding turned turned-by
+every-turned {A} P t p b =
+    step (steps-of t .mirror-top-bottom) top-bottom tb _ (step (steps-of t .mirror-left-right) left-right lr _ (step (steps-of t .exchange) exchanged ex p b))
+  where
+    ex : (p : Picture A) → Every P p → Every P (exchanged p)
+    ex p b = unfold exchanged in (λ r c hr hc. b c r hc hr)
+
+    lr : (p : Picture A) → Every P p → Every P (left-right p)
+    lr p b = unfold left-right in (λ r c hr hc. b r (p .width - 1 - c) hr (omega arith))
+
+    tb : (p : Picture A) → Every P p → Every P (top-bottom p)
+    tb p b = unfold top-bottom in (λ r c hr hc. b (p .height - 1 - r) c (omega arith) hc)
+
+    step : (x : Bool) (S : Picture A → Picture A) → ((p : Picture A) → Every P p → Every P (S p)) → (p : Picture A) → Every P p → Every P (if-so x S p)
+    step true S f p b = f p b
+    step false S f p b = b
+
+-- a sample of the turned frame is a sample of the frame
+from-turned : (t : ℕ) (f : Frame) → Whole f → (v : ℕ) → Among (turn-frame t f .samples) v → Among (f .samples) v
+from-turned t f e v a = subst (Among (f .samples)) (found ∙ a .holds) (every-turned (Among (f .samples)) t (picture-of f) first (a .place / w) (a .place % w) (row-inside w h (a .place) b) (column-inside w h (a .place) b))
+  where
+    q : Picture ℕ
+    q = turned t (picture-of f)
+
+    w : ℕ
+    w = q .width
+
+    h : ℕ
+    h = q .height
+
+    b : a .place < w * h
+    b = unfold turn-frame frame-of in subst (λ (n : ℕ). a .place < n) (length-listing w h (q .at)) (a .inside)
+
+    found : q .at (a .place / w) (a .place % w) ≡ getD (turn-frame t f .samples) (a .place) 0
+    found = unfold turn-frame frame-of listing in sym (getD-tabulate (w * h) (λ k. q .at (k / w) (k % w)) (a .place) 0 b)
+
+    first : Every (Among (f .samples)) (picture-of f)
+    first = unfold picture-of plane-of in
+        (λ r c hr hc. record { place = r * f .width + c; inside = subst (λ (n : ℕ). r * f .width + c < n) (sym (e .count)) (place-inside hr hc); holds = refl })
+
+-- and the other way round: the two have the same values
+pub values-turned : (t : ℕ) (f : Frame) → Whole f → (v : ℕ) → Among (f .samples) v ↔ Among (turn-frame t f .samples) v
+values-turned t f e v = (
+  (λ a. from-turned (undo t) (turn-frame t f) (turned-whole t f) v (subst (λ (g : Frame). Among (g .samples) v) (sym (turn-back t f e)) a)),
+  from-turned t f e v,
+)

@@ -1,0 +1,5 @@
+pub mod Pictures
+pub mod Commuting
+pub mod Colours
+pub mod Frames
+pub mod Calls

@@ -1,0 +1,35 @@
+-- Samples row by row, and turned frames. Assumes nothing.
+use mathlib.Core.List.{List}
+use Prim.Native.Nat.{ℕ, _+_, _*_, _/_, _%_}
+use lib.ListN.{getD}
+use Rattle.integers.specs.Lists.{tabulate}
+use Rattle.turns.specs.Pictures.{Picture, turned}
+
+module _ {A : Type 0} where
+  -- a plane row by row, as a list of w · h elements
+  unfoldable pub listing : ℕ → ℕ → (ℕ → ℕ → A) → List A
+  listing w h plane = tabulate (w * h) (λ k. plane (k / w) (k % w))
+
+  -- the plane that a list of rows of w elements holds; past the list's end, `none`
+  unfoldable pub plane-of : A → ℕ → List A → ℕ → ℕ → A
+  plane-of none w list r c = getD list (r * w + c) none
+
+-- document 01's width, height, layout and samples; a plane of samples too
+pub record Frame : Type 0 where
+  pub width : ℕ
+  pub height : ℕ
+  pub layout : ℕ
+  pub samples : List ℕ
+
+abbrev pub frame : ℕ → ℕ → ℕ → List ℕ → Frame
+frame w h l s = record { width = w; height = h; layout = l; samples = s }
+
+unfoldable pub picture-of : Frame → Picture ℕ
+picture-of f = record { width = f .width; height = f .height; layout = f .layout; at = plane-of 0 (f .width) (f .samples) }
+
+unfoldable pub frame-of : Picture ℕ → Frame
+frame-of p = frame (p .width) (p .height) (p .layout) (listing (p .width) (p .height) (p .at))
+
+-- what an accepted turning call leaves: the turned width, height and layout, and the turned samples, row by row
+unfoldable pub turn-frame : ℕ → Frame → Frame
+turn-frame t f = frame-of (turned t (picture-of f))

@@ -1,0 +1,6 @@
+pub mod Layout
+pub mod Pictures
+pub mod Frames
+pub mod Operations
+pub mod Turning
+pub mod Filling

@@ -1,0 +1,67 @@
+-- The calls on turns: what each asks, and what its answer and its buffer are then. Assumes nothing.
+use mathlib.Core.Path.{_≡_}
+use mathlib.Core.List.{List, [], _∷_, _++_}
+use Prim.Native.Nat.{ℕ, _*_}
+use lib.Dec.{leb, eqb}
+use lib.ListN.{length}
+use Rattle.questions.specs.Questions.{Question, question, ask, shape-questions}
+use Rattle.questions.specs.Answers.{Answered, if-accepted}
+use Rattle.turns.specs.Pictures.{Picture, turned}
+use Rattle.turns.specs.Frames.{Frame, turn-frame}
+use Rattle.turns.specs.declared.Composed.{Composed}
+use Rattle.turns.specs.declared.Composed.the-variants as composed
+use Rattle.turns.specs.declared.Extent.{Extent}
+use Rattle.turns.specs.declared.Extent.the-variants as extent
+use Rattle.turns.specs.declared.TurnedLayout.{TurnedLayout}
+use Rattle.turns.specs.declared.TurnedLayout.the-variants as turned-layout
+use Rattle.turns.specs.declared.TurnedFrame.{TurnedFrame}
+use Rattle.turns.specs.declared.TurnedFrame.the-variants as turned-frame
+
+-- ---- the questions, in document 01's order
+-- then-another: 16 of both turns
+abbrev pub then-questions : ℕ → ℕ → List Question
+then-questions first second = question 16 (leb first 7) ∷ question 16 (leb second 7) ∷ []
+
+-- the turned width, height and layout: 16, 1, 2, 3
+abbrev pub shape-turn-questions : ℕ → ℕ → ℕ → ℕ → List Question
+shape-turn-questions turn width height layout = question 16 (leb turn 7) ∷ shape-questions width height layout
+
+-- the turning call, of `given` samples and a second buffer of `room`: 16, 1, 2, 3, 6, 7
+abbrev pub turn-questions : ℕ → ℕ → ℕ → ℕ → ℕ → ℕ → List Question
+turn-questions turn width height layout given room =
+    shape-turn-questions turn width height layout ++ (question 6 (eqb given (width * height)) ∷ question 7 (eqb room (width * height)) ∷ [])
+
+-- ---- document 01's number of each answer
+abbrev pub number-of-composed : Composed → ℕ
+number-of-composed (composed.Single turn) = 0
+number-of-composed (composed.Refused number) = number
+
+abbrev pub number-of-extent : Extent → ℕ
+number-of-extent (extent.Places n) = 0
+number-of-extent (extent.Refused number) = number
+
+abbrev pub number-of-layout : TurnedLayout → ℕ
+number-of-layout (turned-layout.Layout layout) = 0
+number-of-layout (turned-layout.Refused number) = number
+
+abbrev pub number-of-frame : TurnedFrame → ℕ
+number-of-frame (turned-frame.Accepted width height layout) = 0
+number-of-frame (turned-frame.Refused number) = number
+
+-- ---- what is promised
+-- a width, a height and a layout with nothing at the places, turned
+unfoldable pub shape-turned : ℕ → ℕ → ℕ → ℕ → Picture Unit
+shape-turned turn width height layout = turned turn (record { width = width; height = height; layout = layout; at = λ r c. tt })
+
+-- the answer that an accepted turning call gives
+abbrev pub accepted-as : Frame → TurnedFrame
+accepted-as f = turned-frame.Accepted (f .width) (f .height) (f .layout)
+
+-- the turning call's questions of a frame
+abbrev pub frame-questions : ℕ → Frame → ℕ → List Question
+frame-questions turn f room = turn-questions turn (f .width) (f .height) (f .layout) (length (f .samples)) room
+
+-- The turning call, given frame f and a second buffer that held `before`: its answer r, and what the buffer holds `after`.
+pub record TurnResult (turn : ℕ) (f : Frame) (before : List ℕ) (r : TurnedFrame) (after : List ℕ) : Type 0 where
+  pub answer : Answered number-of-frame (frame-questions turn f (length before)) (accepted-as (turn-frame turn f)) r
+  pub buffer : after ≡ if-accepted (frame-questions turn f (length before)) (turn-frame turn f .samples) before
