@@ -142,3 +142,15 @@ scan-end m most l i h = rw (drop-of-length-le l {i = i} h) (and-true (leb most m
     and-true : (b : Bool) → (b && true) ≡ b
     and-true true = refl
     and-true false = refl
+
+-- ---- question 9's test, place by place
+pub all-at-most-at : (m : ℕ) (l : List ℕ) → T (all-at-most m l) → (k : ℕ) → k < length l → getD l k 0 ≤ m
+unfolding all-at-most
+all-at-most-at m [] t k h = absurd (omega arith)
+all-at-most-at m (x ∷ xs) t zero h = leb→le x m (and-left (leb x m) (all-at-most m xs) t)
+all-at-most-at m (x ∷ xs) t (suc k) h = all-at-most-at m xs (and-right (leb x m) (all-at-most m xs) t) k (omega arith)
+
+pub all-at-most-by : (m : ℕ) (l : List ℕ) → ((k : ℕ) → k < length l → getD l k 0 ≤ m) → T (all-at-most m l)
+unfolding all-at-most
+all-at-most-by m [] f = tt
+all-at-most-by m (x ∷ xs) f = both (leb x m) (all-at-most m xs) (le→leb x m (f 0 (omega arith))) (all-at-most-by m xs (λ k h. f (suc k) (omega arith)))

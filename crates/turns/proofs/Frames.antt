@@ -7,10 +7,14 @@ use Prim.Native.Nat.{ℕ, zero, suc, _+_, _*_, _-_, _/_, _%_, _≤_, _<_}
 use native.Mathlib.Nat.{mod-lt, div-lt-iff-lt-mul, mul-comm, suc-mul, zero-mul, mul-le-mul-right, div-add-mod'}
 use native.Mathlib.Omega.{arith}
 use lib.Arith.{digits-div, digits-mod, digits-lt}
+use lib.Dec.{T}
 use lib.ListN.{length, getD}
 use lib.Seq.{ext-getD}
 use Rattle.integers.specs.Lists.{overwrite}
 use Rattle.integers.proofs.Lists.{length-tabulate, getD-tabulate, tabulate-cong, tabulate-getD, overwrite-none, overwrite-append, overwrite-all}
+use Rattle.integers.proofs.Tests.{same-test}
+use Rattle.questions.specs.Questions.{all-at-most}
+use Rattle.questions.proofs.Asking.{all-at-most-at, all-at-most-by}
 use Rattle.turns.specs.Pictures.{Picture, exchanged, left-right, top-bottom, Steps, steps-of, if-so, turned-by, turned, followed-by, bit, number-of-steps, then-another, _≈_}
 use Rattle.turns.specs.Frames.{listing, plane-of, Frame, frame, picture-of, frame-of, turn-frame}
 use Rattle.turns.proofs.Pictures.{≈-refl, ≈-sym, ≈-trans, turned-by-≈, turned-by-then, turned-then, steps-of-number}
@@ -191,3 +195,13 @@ values-turned t f e v = (
   (λ a. from-turned (undo t) (turn-frame t f) (turned-whole t f) v (subst (λ (g : Frame). Among (g .samples) v) (sym (turn-back t f e)) a)),
   from-turned t f e v,
 )
+
+-- so question 9 is answered alike of both
+pub all-at-most-turned : (top t : ℕ) (f : Frame) → Whole f → all-at-most top (turn-frame t f .samples) ≡ all-at-most top (f .samples)
+all-at-most-turned top t f e =
+    same-test (all-at-most top (turn-frame t f .samples)) (all-at-most top (f .samples))
+    (carried (turn-frame t f .samples) (f .samples) (λ v. values-turned t f e v .0)) (carried (f .samples) (turn-frame t f .samples) (λ v. values-turned t f e v .1))
+  where
+    -- every value of s is one of r, and all of r are at most top
+    carried : (r s : List ℕ) → ((v : ℕ) → Among s v → Among r v) → T (all-at-most top r) → T (all-at-most top s)
+    carried r s f b = all-at-most-by top s (λ k h. let a = f (getD s k 0) (record { place = k; inside = h; holds = refl }) in subst (λ (v : ℕ). v ≤ top) (a .holds) (all-at-most-at top r b (a .place) (a .inside)))

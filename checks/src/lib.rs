@@ -1,0 +1,8 @@
+//! A plain reference program for the engine, written from document 01 alone.
+//!
+//! It follows the document's words and not the engine's code, so that a mistake in one is not a mistake in both. It is slow
+//! and simple: what it answers is compared with what the engine answers.
+
+pub mod border;
+pub mod turns;
+pub mod worked_examples;

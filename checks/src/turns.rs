@@ -1,0 +1,173 @@
+//! Document 01, "Turns".
+
+/// Red's parities in a layout: of its rows, and of its columns.
+pub fn red_parities(layout: u8) -> (usize, usize) {
+    match layout {
+        0 => (0, 0),
+        1 => (0, 1),
+        2 => (1, 0),
+        3 => (1, 1),
+        _ => panic!("no layout {layout}"),
+    }
+}
+
+pub fn layout_of(red: (usize, usize)) -> u8 {
+    (0..4).find(|&l| red_parities(l) == red).unwrap()
+}
+
+#[derive(Clone, Debug, PartialEq)]
+pub struct Frame {
+    pub width: usize,
+    pub height: usize,
+    pub layout: u8,
+    pub samples: Vec<u16>,
+}
+
+impl Frame {
+    fn at(&self, row: usize, column: usize) -> u16 {
+        self.samples[row * self.width + column]
+    }
+
+    /// A frame whose row i, column j holds `held(i, j)`.
+    fn filled(width: usize, height: usize, layout: u8, held: impl Fn(usize, usize) -> u16) -> Frame {
+        let mut samples = Vec::new();
+        for i in 0..height {
+            for j in 0..width {
+                samples.push(held(i, j));
+            }
+        }
+        Frame { width, height, layout, samples }
+    }
+
+    fn exchanged(&self) -> Frame {
+        let layout = match self.layout {
+            1 => 2,
+            2 => 1,
+            other => other,
+        };
+        Frame::filled(self.height, self.width, layout, |i, j| self.at(j, i))
+    }
+
+    fn mirrored_left_right(&self) -> Frame {
+        let (row, column) = red_parities(self.layout);
+        let column = if self.width % 2 == 0 { 1 - column } else { column };
+        Frame::filled(self.width, self.height, layout_of((row, column)), |i, j| {
+            self.at(i, self.width - 1 - j)
+        })
+    }
+
+    fn mirrored_top_bottom(&self) -> Frame {
+        let (row, column) = red_parities(self.layout);
+        let row = if self.height % 2 == 0 { 1 - row } else { row };
+        Frame::filled(self.width, self.height, layout_of((row, column)), |i, j| {
+            self.at(self.height - 1 - i, j)
+        })
+    }
+
+    pub fn turned(&self, turn: u8) -> Frame {
+        let first = if turn >= 4 { self.exchanged() } else { self.clone() };
+        match turn % 4 {
+            0 => first,
+            1 => first.mirrored_left_right(),
+            2 => first.mirrored_top_bottom(),
+            _ => first.mirrored_left_right().mirrored_top_bottom(),
+        }
+    }
+}
+
+/// Question 16 of both turns; then the one turn that does what the two do, found by trying each on a frame that no turn
+/// leaves as it is.
+pub fn then_another(first: u8, second: u8) -> Result<u8, u32> {
+    if first > 7 || second > 7 {
+        return Err(16);
+    }
+    let frame = Frame { width: 3, height: 2, layout: 0, samples: (0..6).collect() };
+    let both = frame.turned(first).turned(second);
+    Ok((0..8).find(|&t| frame.turned(t) == both).unwrap())
+}
+
+/// Questions 16, 1, 2 and 3.
+pub fn shape_refusal(turn: u8, width: usize, height: usize, layout: u8) -> Option<u32> {
+    if turn > 7 {
+        Some(16)
+    } else if !(2..=2048).contains(&width) {
+        Some(1)
+    } else if !(2..=2048).contains(&height) {
+        Some(2)
+    } else if layout > 3 {
+        Some(3)
+    } else {
+        None
+    }
+}
+
+/// The turned width, height and layout.
+pub fn turned_shape(turn: u8, width: usize, height: usize, layout: u8) -> Result<(usize, usize, u8), u32> {
+    match shape_refusal(turn, width, height, layout) {
+        Some(number) => Err(number),
+        None => {
+            let samples = vec![0; width * height];
+            let frame = Frame { width, height, layout, samples }.turned(turn);
+            Ok((frame.width, frame.height, frame.layout))
+        }
+    }
+}
+
+/// The turning call: the shape's questions, then 6 of the samples and 7 of the second buffer.
+pub fn turn_samples(
+    turn: u8,
+    width: usize,
+    height: usize,
+    layout: u8,
+    samples: &[u16],
+    out: &mut [u16],
+) -> Result<(usize, usize, u8), u32> {
+    if let Some(number) = shape_refusal(turn, width, height, layout) {
+        return Err(number);
+    }
+    if samples.len() != width * height {
+        return Err(6);
+    }
+    if out.len() != width * height {
+        return Err(7);
+    }
+    let frame = Frame { width, height, layout, samples: samples.to_vec() }.turned(turn);
+    out.copy_from_slice(&frame.samples);
+    Ok((frame.width, frame.height, frame.layout))
+}
+
+#[cfg(test)]
+mod tests {
+    use super::*;
+
+    #[test]
+    fn one_then_four_is_six() {
+        assert_eq!(then_another(1, 4), Ok(6));
+    }
+
+    /// The colour of a place, as document 01 tells it.
+    fn colour(layout: u8, row: usize, column: usize) -> char {
+        let (r, c) = red_parities(layout);
+        match (row % 2 == r, column % 2 == c) {
+            (true, true) => 'r',
+            (false, false) => 'b',
+            _ => 'g',
+        }
+    }
+
+    #[test]
+    fn a_turned_place_keeps_its_colour() {
+        for (width, height) in [(2, 2), (3, 2), (2, 3), (5, 4), (7, 5)] {
+            for layout in 0..4 {
+                let colours = Frame::filled(width, height, layout, |i, j| colour(layout, i, j) as u16);
+                for turn in 0..8 {
+                    let turned = colours.turned(turn);
+                    let expected = Frame::filled(turned.width, turned.height, turned.layout, |i, j| {
+                        colour(turned.layout, i, j) as u16
+                    });
+                    assert_eq!(turned, expected, "{width} by {height}, layout {layout}, turn {turn}");
+                }
+            }
+        }
+    }
+}

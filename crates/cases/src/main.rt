@@ -1,0 +1,10 @@
+// The worked examples, printed. What this program writes is held against the file stdout, which the reference program in
+// checks/ makes from document 01 alone.
+mod print;
+mod turning;
+
+fn main() {
+    turning::compositions();
+    turning::refusals();
+    turning::frames();
+}

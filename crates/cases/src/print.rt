@@ -1,0 +1,29 @@
+// Text and numbers on standard output. A write that fails ends nothing: what is missing shows in the comparison.
+use libc::STDOUT_FILENO;
+
+pub(crate) fn text(bytes: &[u8]) {
+    io::write_all(STDOUT_FILENO, bytes);
+}
+
+pub(crate) fn number(n: usize) {
+    io::print_decimal(STDOUT_FILENO, n as u64);
+}
+
+pub(crate) fn refused(n: u32) {
+    text(b"refused ");
+    number(n as usize);
+}
+
+fn sample(x: u16) {
+    number(x as usize);
+}
+
+// Samples, each after a space.
+pub(crate) fn samples(values: &[u16]) {
+    let mut k = 0;
+    while k < values.len() {
+        text(b" ");
+        sample(values[k]);
+        k += 1;
+    }
+}
