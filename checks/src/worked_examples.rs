@@ -42,26 +42,29 @@ fn example(out: &mut String, turn: u8, width: usize, height: usize, layout: u8, 
     out.push('\n');
 }
 
-/// Each question answered no, at both ends of its range, and first among several.
+/// Each question answered no: turn, width, height, layout, how many samples, and the second buffer's length.
 fn refusals(out: &mut String) {
     let most = usize::MAX;
     let calls: [(u8, usize, usize, u8, usize, usize); 17] = [
+        // at both ends of their ranges
         (8, 2, 2, 0, 4, 4),
-        (255, 0, 0, 4, 3, 3),
         (0, 0, 2, 0, 4, 4),
-        (1, 1, 2049, 4, 3, 3),
         (2, 2049, 2, 0, 4, 4),
-        (3, most, most, 255, 3, 3),
         (4, 2, 1, 0, 4, 4),
-        (5, 2, 2049, 4, 3, 3),
         (6, 2, 65535, 0, 4, 4),
-        (7, 2, 2, 4, 3, 3),
         (0, 2, 2, 255, 4, 4),
-        (1, 2, 2, 3, 3, 4),
+        // first among several
+        (255, 0, 0, 4, 3, 3),
+        (3, most, most, 255, 3, 3),
+        (1, 1, 2049, 4, 3, 3),
+        (5, 2, 2049, 4, 3, 3),
+        (7, 2, 2, 4, 3, 3),
         (2, 2, 2, 2, 3, 3),
-        (3, 2, 2, 1, 4, 3),
-        (4, 2048, 2048, 0, 4, 4),
+        // the buffers
+        (1, 2, 2, 3, 3, 4),
         (5, 2, 2, 0, 5, 4),
+        (4, 2048, 2048, 0, 4, 4),
+        (3, 2, 2, 1, 4, 3),
         (6, 2, 2, 0, 4, 5),
     ];
     for (turn, width, height, layout, given, room) in calls {

@@ -1,16 +1,13 @@
 -- The laws of the reflection at a border. Assumes nothing.
 use mathlib.Core.Path.{_≡_, refl, sym, _∙_, ap, subst}
-use mathlib.Core.Bool.{Bool, true, false, cond, not}
 use mathlib.Core.List.{[], _∷_}
-use mathlib.Core.Logic.{_⊎_, inl, inr}
 use Prim.Native.Nat.{ℕ, zero, suc, _+_, _*_, _-_, _/_, _%_, _≤_, _<_, min, max}
 use native.Mathlib.Decide.{decLt, decLe}
 use native.Mathlib.Nat.{mod-lt, mod-eq-of-lt, add-mod-right, mod-add-div', mod-one, zero-mod, mod-self}
 use native.Mathlib.Omega.{arith}
-use lib.Dec.{T, ltb}
 use lib.IntN.{ℤ, pos, negsuc, negℤ, natAbs, _+ℤ_, _-ℤ_}
 use borrow.Author.Tests.{lt-ltb, le-ltb}
-use Rattle.integers.proofs.Bounds.{abs-neg, abs-minus, minus-pos, minus-neg}
+use Rattle.integers.proofs.Bounds.{abs-neg, minus-pos, minus-neg}
 use Rattle.integers.proofs.Linear.{linear, x₀, x₁, x₂, neg, _⊕_, _⊖_}
 use Rattle.border.specs.Border.{reflect, until-inside}
 

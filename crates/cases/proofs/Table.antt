@@ -1,8 +1,7 @@
 -- Every letter case holds, by computation from the definitions that the contracts cite. Assumes nothing.
 use mathlib.Core.Path.{_≡_, refl}
 use mathlib.Core.Bool.{xor}
-use mathlib.Core.List.{List, map}
-use lib.IntN.{ℤ}
+use mathlib.Core.List.{map}
 use Rattle.border.specs.Border.{reflect, until-inside}
 use Rattle.turns.specs.Pictures.{then-another, followed-by, steps-of, number-of-steps}
 use Rattle.cases.specs.Table.{Case, table}

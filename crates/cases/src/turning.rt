@@ -94,32 +94,48 @@ fn example(turn: u8, width: usize, height: usize, layout: u8, samples: &[u16], o
     print::text(b"\n");
 }
 
-// Each question answered no, at both ends of its range, and first among several.
-pub(crate) fn refusals() {
-    let three = [0u16, 1, 2];
+// Questions 16, 1, 2 and 3 answered no, at both ends of their ranges.
+fn refused_shapes() {
     let four = [0u16, 1, 2, 3];
-    let five = [0u16, 1, 2, 3, 4];
+    let mut room = [7u16; 4];
+    example(8, 2, 2, 0, &four, &mut room);
+    example(0, 0, 2, 0, &four, &mut room);
+    example(2, 2049, 2, 0, &four, &mut room);
+    example(4, 2, 1, 0, &four, &mut room);
+    example(6, 2, 65535, 0, &four, &mut room);
+    example(0, 2, 2, 255, &four, &mut room);
+}
+
+// First among several; 3 samples where more are wanted, and room for 3.
+fn refused_first() {
+    let three = [0u16, 1, 2];
+    let mut room = [7u16; 3];
+    let most = 18446744073709551615;
+    example(255, 0, 0, 4, &three, &mut room);
+    example(3, most, most, 255, &three, &mut room);
+    example(1, 1, 2049, 4, &three, &mut room);
+    example(5, 2, 2049, 4, &three, &mut room);
+    example(7, 2, 2, 4, &three, &mut room);
+    example(2, 2, 2, 2, &three, &mut room);
+}
+
+// Questions 6 and 7 answered no: one sample less, one more, and the largest frame.
+fn refused_buffers() {
+    let four = [0u16, 1, 2, 3];
     let mut room = [7u16; 4];
     let mut less = [7u16; 3];
     let mut more = [7u16; 5];
-    let most = 18446744073709551615;
-    example(8, 2, 2, 0, &four, &mut room);
-    example(255, 0, 0, 4, &three, &mut less);
-    example(0, 0, 2, 0, &four, &mut room);
-    example(1, 1, 2049, 4, &three, &mut less);
-    example(2, 2049, 2, 0, &four, &mut room);
-    example(3, most, most, 255, &three, &mut less);
-    example(4, 2, 1, 0, &four, &mut room);
-    example(5, 2, 2049, 4, &three, &mut less);
-    example(6, 2, 65535, 0, &four, &mut room);
-    example(7, 2, 2, 4, &three, &mut less);
-    example(0, 2, 2, 255, &four, &mut room);
-    example(1, 2, 2, 3, &three, &mut room);
-    example(2, 2, 2, 2, &three, &mut less);
-    example(3, 2, 2, 1, &four, &mut less);
+    example(1, 2, 2, 3, &[0u16, 1, 2], &mut room);
+    example(5, 2, 2, 0, &[0u16, 1, 2, 3, 4], &mut room);
     example(4, 2048, 2048, 0, &four, &mut room);
-    example(5, 2, 2, 0, &five, &mut room);
+    example(3, 2, 2, 1, &four, &mut less);
     example(6, 2, 2, 0, &four, &mut more);
+}
+
+pub(crate) fn refusals() {
+    refused_shapes();
+    refused_first();
+    refused_buffers();
 }
 
 fn by_each_layout(turn: u8, width: usize, height: usize, samples: &[u16], out: &mut [u16]) {

@@ -7,7 +7,7 @@ use mathlib.Core.List.{List, [], _∷_}
 use Prim.Native.Nat.{ℕ, zero, suc}
 use lib.ListN.{getD}
 use lib.Dec.{T, eqb, eqb→eq}
-use lib.IntN.{ℤ, pos, negsuc, negℤ, _+ℤ_, _*ℤ_, _-ℤ_, +ℤ-assoc, +ℤ-comm, +ℤ-idl, +ℤ-idr, -ℤ-+ℤ-cancel, zero-*ℤ, *ℤ-zero, *ℤ-comm}
+use lib.IntN.{ℤ, pos, negsuc, negℤ, _+ℤ_, _*ℤ_, _-ℤ_, +ℤ-idl, +ℤ-idr, -ℤ-+ℤ-cancel, zero-*ℤ, *ℤ-zero, *ℤ-comm}
 use Rattle.integers.proofs.Tests.{and-left, and-right}
 use Rattle.integers.proofs.Products.{+ℤ-interchange, +ℤ-*ℤ, *ℤ-+ℤ, *ℤ-assoc, one-*ℤ, minus-one-*ℤ}
 

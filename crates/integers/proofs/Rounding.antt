@@ -1,7 +1,6 @@
 -- The laws of whole division and of the rounded quotient, below zero too. What uses `rounded` uses these laws, not its text.
 -- Assumes nothing.
 use mathlib.Core.Path.{_≡_, refl, sym, ap, _∙_, subst}
-use mathlib.Core.Bool.{true, false}
 use mathlib.Core.List.{[], _∷_}
 use Prim.Native.Nat.{ℕ, zero, suc, _+_, _*_, _-_, _/_, _%_, _≤_, _<_}
 use native.Mathlib.Nat.{div-add-mod, mod-lt, mul-suc, le-div-iff-mul-le, le-trans, div-mul-le-self, mul-le-mul-left}
@@ -82,7 +81,7 @@ whole-divided-monotone d {a} {b} some h = go a b h
 -- ---- the rounded quotient
 pub rounded-monotone : (d : ℕ) {a b : ℤ} → 0 < d → a ≤ℤ b → rounded d a ≤ℤ rounded d b
 unfolding rounded
-rounded-monotone d some h = whole-divided-monotone d some (≤ℤ-add h (pos (d / 2)))
+rounded-monotone d some h = whole-divided-monotone d some (≤ℤ-add h _)
 
 -- d times it is within half of d of the number
 pub rounded-near : (d : ℕ) (s : ℤ) → 0 < d → 2 * natAbs (pos d *ℤ rounded d s -ℤ s) ≤ d

@@ -3,18 +3,15 @@ use Prim.Native.Nat.{ℕ, zero, suc, _+_, _*_, _≤_, _<_, max}
 use mathlib.Core.Path.{_≡_, refl, ap, _∙_, sym}
 use mathlib.Core.Bool.{Bool, true, false, cond, _&&_, and-assoc}
 use mathlib.Core.List.{List, [], _∷_, _++_}
-use native.Mathlib.Decide.{decLe}
-use native.Mathlib.Nat.{le-trans, mul-le-mul}
+use native.Mathlib.Nat.{mul-le-mul}
 use native.Mathlib.Numerals.{add-one}
 use native.Mathlib.Omega.{arith}
 use lib.Dec.{T, leb, eqb, le→leb, leb→le}
 use lib.ListN.{length, drop, getD, drop-of-length-le}
 use lib.Seq.{drop-cons}
-use mir.Val.{Fits}
-use mir.Syntax.{w64}
 use borrow.Author.Tests.{le-leb, lt-leb, eq-eqb, ne-eqb, leb-true}
-use Rattle.integers.proofs.Tests.{is-true, never, and-left, and-right, both, same-test}
-use Rattle.questions.specs.Questions.{Question, question, ask, between, all-at-most, size-questions, shape-questions, settings-questions}
+use Rattle.integers.proofs.Tests.{never, and-left, and-right, both, same-test}
+use Rattle.questions.specs.Questions.{Question, question, ask, between, all-at-most, shape-questions}
 
 -- ---- at a return
 pub ask-end : 0 ≡ ask []

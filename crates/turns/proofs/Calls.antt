@@ -1,9 +1,8 @@
 -- What the code of the calls computes is what their definitions say. Assumes nothing.
 use mathlib.Core.Path.{_≡_, refl, sym, _∙_, ap}
 use mathlib.Core.Bool.{Bool, true, false, cond, xor}
-use mathlib.Core.List.{List, [], _∷_}
-use Prim.Native.Nat.{ℕ, _+_, _*_, _-_, _/_, _%_, _≤_, _<_}
-use native.Mathlib.Nat.{mul-comm, mul-one, add-comm}
+use mathlib.Core.List.{List}
+use Prim.Native.Nat.{ℕ, _+_, _*_, _/_, _%_, _≤_, _<_}
 use native.Mathlib.Omega.{arith}
 use lib.Dec.{leb, eqb}
 use lib.ListN.{length, getD}
@@ -13,13 +12,12 @@ use Rattle.questions.specs.Questions.{ask}
 use Rattle.questions.proofs.Asking.{AllYes, all-yes, Shape, shape-is}
 use Rattle.questions.proofs.Answering.{answer-no, answer-yes, left-no, left-yes}
 use Rattle.turns.specs.Layout.{red-row, red-column, with-parities}
-use Rattle.turns.specs.Pictures.{Picture, exchanged, left-right, top-bottom, flip-if-even, Steps, steps-of, if-so, turned-by, turned, followed-by, bit, number-of-steps, then-another}
+use Rattle.turns.specs.Pictures.{Picture, exchanged, left-right, top-bottom, flip-if-even, steps-of, if-so, turned-by, turned, followed-by, number-of-steps, then-another}
 use Rattle.turns.specs.Frames.{listing, plane-of, Frame, frame, picture-of, frame-of, turn-frame}
 use Rattle.turns.specs.Turning.{shape-turned, shape-turn-questions, turn-questions, frame-questions, number-of-frame, accepted-as, TurnResult}
 use Rattle.turns.specs.declared.TurnedFrame.the-variants.{Accepted, Refused}
-use Rattle.turns.specs.Filling.{mirror-place, source-row, source-plane, InRow, InPlane}
+use Rattle.turns.specs.Filling.{mirror-place, source-row, source-plane}
 use Rattle.turns.proofs.Pictures.{row-lt, column-lt, row-of, column-of, parities-again, own-parities, flip-lt}
-use Rattle.turns.proofs.Frames.{listing-agree, place-inside}
 
 -- ---- then-another, by one computed test over all pairs
 -- as the code has it: the second turn exchanges, or not

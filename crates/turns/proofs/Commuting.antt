@@ -4,8 +4,8 @@ use mathlib.Core.Bool.{Bool, true, false}
 use mathlib.Core.List.{[], _∷_}
 use Prim.Native.Nat.{ℕ, _+_, _-_, _%_, _<_}
 use native.Mathlib.Omega.{arith}
-use lib.Dec.{eqb, eqb→eq, eqb-refl}
-use lib.IntN.{ℤ, pos, negℤ, _+ℤ_, _-ℤ_}
+use lib.Dec.{eqb, eqb→eq}
+use lib.IntN.{ℤ, pos, negℤ, _+ℤ_}
 use borrow.Author.Tests.{eq-eqb}
 use Rattle.integers.proofs.Tests.{same-test, true-is}
 use Rattle.integers.proofs.Bounds.{minus-pos}
@@ -13,7 +13,7 @@ use Rattle.integers.proofs.Linear.{linear, x₀, x₁, x₂, neg, _⊕_, _⊖_}
 use Rattle.border.specs.Border.{reflect}
 use Rattle.border.proofs.Reflection.{reflect-lt, reflect-mirror}
 use Rattle.turns.specs.Layout.{red-row, red-column, on-red-row, on-red-column, with-parities}
-use Rattle.turns.specs.Pictures.{Picture, exchanged, left-right, top-bottom, flip-if-even, Steps, steps-of, if-so, turned-by, turned, _≈_}
+use Rattle.turns.specs.Pictures.{Picture, exchanged, left-right, top-bottom, flip-if-even, steps-of, if-so, turned-by, turned, _≈_}
 use Rattle.turns.specs.Operations.{Operation, Around, nearby}
 use Rattle.turns.proofs.Pictures.{row-lt, column-lt, row-of, column-of, flip-is, flip-lt, ≈-refl, ≈-sym, ≈-trans, exchanged-≈, left-right-≈, top-bottom-≈, top-bottom-is}
 

@@ -1,7 +1,7 @@
 -- Planes as lists, and turned frames: as many samples, the same values, and a turn that undoes each turn. Assumes nothing.
 use mathlib.Core.Path.{_≡_, refl, sym, _∙_, ap, subst}
 use mathlib.Core.Bool.{Bool, true, false, cond, xor}
-use mathlib.Core.List.{List, [], _∷_}
+use mathlib.Core.List.{List}
 use mathlib.Core.Logic.{_↔_}
 use Prim.Native.Nat.{ℕ, zero, suc, _+_, _*_, _-_, _/_, _%_, _≤_, _<_}
 use native.Mathlib.Nat.{mod-lt, div-lt-iff-lt-mul, mul-comm, suc-mul, zero-mul, mul-le-mul-right, div-add-mod'}
@@ -9,15 +9,14 @@ use native.Mathlib.Omega.{arith}
 use lib.Arith.{digits-div, digits-mod, digits-lt}
 use lib.Dec.{T}
 use lib.ListN.{length, getD}
-use lib.Seq.{ext-getD}
 use Rattle.integers.specs.Lists.{overwrite}
 use Rattle.integers.proofs.Lists.{length-tabulate, getD-tabulate, tabulate-cong, tabulate-getD, overwrite-none, overwrite-append, overwrite-all}
 use Rattle.integers.proofs.Tests.{same-test}
 use Rattle.questions.specs.Questions.{all-at-most}
 use Rattle.questions.proofs.Asking.{all-at-most-at, all-at-most-by}
-use Rattle.turns.specs.Pictures.{Picture, exchanged, left-right, top-bottom, Steps, steps-of, if-so, turned-by, turned, followed-by, bit, number-of-steps, then-another, _≈_}
+use Rattle.turns.specs.Pictures.{Picture, exchanged, left-right, top-bottom, steps-of, if-so, turned-by, turned, followed-by, number-of-steps, then-another, _≈_}
 use Rattle.turns.specs.Frames.{listing, plane-of, Frame, frame, picture-of, frame-of, turn-frame}
-use Rattle.turns.proofs.Pictures.{≈-refl, ≈-sym, ≈-trans, turned-by-≈, turned-by-then, turned-then, steps-of-number}
+use Rattle.turns.proofs.Pictures.{≈-trans, turned-by-≈, turned-then, steps-of-number}
 use Rattle.turns.proofs.Commuting.{Agree}
 
 -- ---- place k of a plane w by h

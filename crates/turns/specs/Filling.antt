@@ -1,7 +1,7 @@
 -- Inner: where each turned sample comes from, as the code finds it. Assumes nothing.
 use mathlib.Core.Bool.{Bool, cond}
 use mathlib.Core.List.{List}
-use Prim.Native.Nat.{ℕ, _+_, _*_, _-_, _≤_, _<_}
+use Prim.Native.Nat.{ℕ, _+_, _*_, _-_, _<_}
 use lib.ListN.{length, getD}
 
 -- place i of a line of n that is mirrored or not

@@ -1,6 +1,6 @@
 -- Document 01, "Frame, layout, border": which colour sits where. Counting starts at 0. Assumes nothing.
 use mathlib.Core.Bool.{Bool, true, false}
-use Prim.Native.Nat.{ℕ, _+_, _*_, _-_, _/_, _%_}
+use Prim.Native.Nat.{ℕ, _+_, _*_, _/_, _%_}
 use lib.Dec.{eqb}
 
 -- Red sits on even rows and even columns in layout 0, even rows and odd columns in 1, odd rows and even columns in 2, odd and

@@ -4,7 +4,7 @@ use mathlib.Core.List.{List, [], _∷_, _++_}
 use Prim.Native.Nat.{ℕ, _*_}
 use lib.Dec.{leb, eqb}
 use lib.ListN.{length}
-use Rattle.questions.specs.Questions.{Question, question, ask, shape-questions}
+use Rattle.questions.specs.Questions.{Question, question, shape-questions}
 use Rattle.questions.specs.Answers.{Answered, if-accepted}
 use Rattle.turns.specs.Pictures.{Picture, turned}
 use Rattle.turns.specs.Frames.{Frame, turn-frame}

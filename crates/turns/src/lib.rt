@@ -186,7 +186,8 @@ fn fill_row(
 // All turned rows. Rows stand `row_step` apart in `samples`, the samples of a row `column_step`.
 fn fill_rows(
     samples: &[u16],
-    turn: u8,
+    left_right: u8,
+    top_bottom: u8,
     columns: usize,
     rows: usize,
     row_step: usize,
@@ -195,10 +196,8 @@ fn fill_rows(
 )
     requires { ⌜ InPlane (now samples) columns rows «row_step» «column_step» ⌝ }
     requires { ⌜ length (now out) ≡ columns * rows ⌝ }
-    ensures { λ _. ⌜ now (out .exit) ≡ listing columns rows (source-plane (now (samples .entry)) (eqb (turn % 2) 1) (eqb (turn / 2 % 2) 1) columns rows «row_step» «column_step») ⌝ }
+    ensures { λ _. ⌜ now (out .exit) ≡ listing columns rows (source-plane (now (samples .entry)) (eqb «left_right» 1) (eqb «top_bottom» 1) columns rows «row_step» «column_step») ⌝ }
 {
-    let left_right = turn % 2;
-    let top_bottom = turn / 2 % 2;
     let mut i = 0;
     while i < rows {
         let from = mirrored(top_bottom, rows, i) * row_step;
@@ -215,16 +214,18 @@ fn fill_rows(
     }
 }
 
-// The turned samples, row by row; the layout has no part in it.
+// The turned samples, row by row; the layout has no part in it. After an exchange the given columns are rows.
 fn fill(turn: u8, width: usize, height: usize, samples: &[u16], out: &mut [u16])
     requires { ⌜ (0 < width) × (0 < height) × (length (now samples) ≡ width * height) × (length (now out) ≡ width * height) ⌝ }
     ensures { λ _. ⌜ ((layout : ℕ) → now (out .exit) ≡ turn-frame turn (frame width height layout (now (samples .entry))) .samples) ⌝ }
 {
+    let lr = turn % 2;
+    let tb = turn / 2 % 2;
     if 4 <= turn {
-        fill_rows(samples, turn, height, width, 1, width, out);
+        fill_rows(samples, lr, tb, height, width, 1, width, out);
         return;
     }
-    fill_rows(samples, turn, width, height, width, 1, out);
+    fill_rows(samples, lr, tb, width, height, width, 1, out);
 }
 
 // Questions 16, 1, 2, 3, 6 and 7, of `given` samples and a second buffer of `room`.
@@ -257,9 +258,9 @@ pub fn turn_samples(
     ensures { λ r. ⌜ TurnResult (turn .number) (frame width height layout (now (samples .entry))) (now (out .entry)) r (now (out .exit)) ⌝ }
 {
     let t = turn.number;
-    let number = turn_refusal(t, width, height, layout, samples.len(), out.len());
-    if number != 0 {
-        return TurnedFrame::Refused(number);
+    let refusal = turn_refusal(t, width, height, layout, samples.len(), out.len());
+    if refusal != 0 {
+        return TurnedFrame::Refused(refusal);
     }
     fill(t, width, height, samples, out);
     TurnedFrame::Accepted {

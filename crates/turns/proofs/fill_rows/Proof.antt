@@ -1,12 +1,11 @@
 -- `turns::fill_rows` meets its contract: after i turns, i rows are laid down.
 -- Assumes nothing.
-use mathlib.Core.Path.{_≡_, refl, sym, ap, _∙_}
-use Prim.Native.Nat.{ℕ, _+_, _*_, _-_, _/_, _%_, _≤_, _<_}
+use mathlib.Core.Path.{_≡_, refl, ap, _∙_}
+use Prim.Native.Nat.{ℕ, _+_, _*_, _-_, _/_, _%_, _≤_}
 use native.Mathlib.Omega.{arith}
 use lib.Dec.{eqb}
 use lib.ListN.{length}
 use denote.Ref.{now}
-use borrow.Author.Needs.{needs}
 use Rattle.integers.specs.Lists.{overwrite}
 use Rattle.turns.specs.Filling.{source-plane}
 use Rattle.turns.proofs.Frames.{row-room, overwrite-no-row, overwrite-row, overwrite-plane}
@@ -15,11 +14,11 @@ use Rattle.turns.proofs.fill_rows.Statement.{statement}
 use Rattle.turns.proofs.fill_rows.Tie as tie
 
 abbrev Inv-loop : tie.InvT-loop
-Inv-loop samples turn columns rows row-step column-step out₀ left-right top-bottom i₀ out i =
-    (i ≤ rows) × (out ≡ overwrite out₀ 0 (i * columns) (λ k. source-plane samples (eqb (turn % 2) 1) (eqb (turn / 2 % 2) 1) columns rows row-step column-step (k / columns) (k % columns))) × (length out ≡ length out₀)
+Inv-loop samples left-right top-bottom columns rows row-step column-step out₀ i₀ out i =
+    (i ≤ rows) × (out ≡ overwrite out₀ 0 (i * columns) (λ k. source-plane samples (eqb left-right 1) (eqb top-bottom 1) columns rows row-step column-step (k / columns) (k % columns))) × (length out ≡ length out₀)
 
 abbrev μ-loop : tie.MeasureT-loop
-μ-loop samples turn columns rows row-step column-step out₀ left-right top-bottom i₀ out i = rows - i
+μ-loop samples left-right top-bottom columns rows row-step column-step out₀ i₀ out i = rows - i
 
 loop-holds : tie.Need-loop-holds Inv-loop μ-loop
 loop-holds c = let a = c .before .before .args in (omega arith, overwrite-no-row (now (a .out)) 0 (a .columns) _, refl)
@@ -63,8 +62,8 @@ loop-again c =
     let l = c .before .before .before .before .before .before in
     let a = l .before .before .before .args in
     let m = c .before .before .before .before .mirrored in
-    let lr = eqb (a .turn % 2) 1 in
-    let tb = eqb (a .turn / 2 % 2) 1 in (
+    let lr = eqb (a .left-right) 1 in
+    let tb = eqb (a .top-bottom) 1 in (
       omega arith,
       c .before .before .fill-row .ensures
           ∙ overwrite-row (now (a .out)) 0 (a .columns) (l .loop .i) (source-plane (now (a .samples)) lr tb (a .columns) (a .rows) (a .row-step) (a .column-step)) _ (l .loop .i * a .columns) (omega arith) (omega (arith, room (c .before .before .before .before))) (l .loop .inv .1)
@@ -79,7 +78,7 @@ returns : tie.Need-returns Inv-loop μ-loop
 returns c =
     let l = c .before in
     let a = l .before .before .before .args in
-    let p = source-plane (now (a .samples)) (eqb (a .turn % 2) 1) (eqb (a .turn / 2 % 2) 1) (a .columns) (a .rows) (a .row-step) (a .column-step) in
+    let p = source-plane (now (a .samples)) (eqb (a .left-right) 1) (eqb (a .top-bottom) 1) (a .columns) (a .rows) (a .row-step) (a .column-step) in
     let all : l .loop .i ≡ a .rows = omega arith in
     l .loop .inv .1 ∙ ap (λ (n : ℕ). overwrite (now (a .out)) 0 (n * a .columns) (λ k. p (k / a .columns) (k % a .columns))) all
     ∙ overwrite-plane (now (a .out)) (a .columns) (a .rows) p (l .before .before .before .pre .1)

@@ -1,6 +1,5 @@
 -- `turns::if_exchanged` meets its contract.
 -- Assumes nothing.
-use mathlib.Core.Path.{_≡_}
 use borrow.Author.Tests.{le-leb, lt-leb}
 use Rattle.turns.proofs.if_exchanged.Statement.{statement}
 use Rattle.turns.proofs.if_exchanged.Tie as tie

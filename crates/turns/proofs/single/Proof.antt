@@ -1,6 +1,5 @@
 -- `turns::single` meets its contract, by the one test over all pairs.
 -- Assumes nothing.
-use mathlib.Core.Path.{_≡_, sym, _∙_, ap}
 use native.Mathlib.Omega.{arith}
 use borrow.Author.Needs.{needs}
 use Rattle.turns.proofs.Calls.{single-high as high, single-low as low}

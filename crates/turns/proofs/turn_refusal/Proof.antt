@@ -1,6 +1,6 @@
 -- `turns::turn_refusal` meets its contract: the shape's questions, then 6 and 7.
 -- Assumes nothing.
-use mathlib.Core.Path.{_≡_, sym, _∙_}
+use mathlib.Core.Path.{sym, _∙_}
 use native.Mathlib.Omega.{arith}
 use borrow.Author.Needs.{needs}
 use Rattle.questions.proofs.Asking.{asking, ask-first, ask-later}

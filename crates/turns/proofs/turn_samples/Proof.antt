@@ -1,6 +1,6 @@
 -- `turns::turn_samples` meets its contract: one check, one branch, and then the turned samples.
 -- Assumes nothing.
-use mathlib.Core.Path.{_≡_, sym, _∙_}
+use mathlib.Core.Path.{sym, _∙_}
 use native.Mathlib.Omega.{arith}
 use lib.ListN.{length}
 use denote.Ref.{now}

@@ -1,6 +1,6 @@
 -- `Turn::turned_width` meets its contract.
 -- Assumes nothing.
-use mathlib.Core.Path.{_≡_, refl, ap, sym, _∙_}
+use mathlib.Core.Path.{refl, ap, sym, _∙_}
 use borrow.Author.Needs.{needs}
 use Rattle.questions.proofs.Answering.{answer-no, answer-yes}
 use Rattle.turns.specs.Turning.{shape-turn-questions, number-of-extent}
