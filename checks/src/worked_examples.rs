@@ -1,5 +1,6 @@
-//! What the program `cases` must write: its worked examples, computed by the reference.
+//! What the program `worked_examples` must write: its worked examples, computed by the reference.
 
+use crate::border;
 use crate::turns;
 use std::fmt::Write;
 
@@ -7,6 +8,17 @@ fn number<T: std::fmt::Display>(answer: Result<T, u32>) -> String {
     match answer {
         Ok(value) => value.to_string(),
         Err(refusal) => format!("refused {refusal}"),
+    }
+}
+
+/// The border: the places that the indices −9 to 9 mean, in lines of 1 to 6.
+fn reflections(out: &mut String) {
+    for n in 1..7 {
+        write!(out, "line of {n}, from -9 to 9:").unwrap();
+        for i in -9..=9 {
+            write!(out, " {}", border::reflect(n, i)).unwrap();
+        }
+        out.push('\n');
     }
 }
 
@@ -87,6 +99,7 @@ fn frames(out: &mut String) {
 
 pub fn text() -> String {
     let mut out = String::new();
+    reflections(&mut out);
     compositions(&mut out);
     refusals(&mut out);
     frames(&mut out);

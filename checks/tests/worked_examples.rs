@@ -1,8 +1,8 @@
-//! The file that the program `cases` is held against is what the reference program computes.
+//! The file that the program `worked_examples` is held against is what the reference program computes.
 
 #[test]
 fn the_held_output_is_the_references() {
-    let held = include_str!("../../crates/cases/stdout");
+    let held = include_str!("../../crates/worked_examples/stdout");
     let text = checks::worked_examples::text();
     for (k, (a, b)) in held.lines().zip(text.lines()).enumerate() {
         assert_eq!(a, b, "line {}", k + 1);

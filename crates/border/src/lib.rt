@@ -6,7 +6,7 @@ ghost use Rattle.border.specs.Border.{reflect};
 
 // The place that index i of a line of n means.
 pub fn reflected(n: usize, i: usize) -> usize
-    requires { ⌜ (1 ≤ n) × (n ≤ 2 ^ 63) ⌝ }
+    requires { ⌜ (1 ≤ n) × (n ≤ 2 ^ 62) ⌝ }
     ensures { λ r. ⌜ (r ≡ reflect n (pos i)) × (r < n) ⌝ }
 {
     if i < n {
@@ -22,7 +22,7 @@ pub fn reflected(n: usize, i: usize) -> usize
 
 // The place that the index `back` places before i means.
 pub fn reflected_before(n: usize, i: usize, back: usize) -> usize
-    requires { ⌜ (1 ≤ n) × (n ≤ 2 ^ 63) ⌝ }
+    requires { ⌜ (1 ≤ n) × (n ≤ 2 ^ 62) ⌝ }
     ensures { λ r. ⌜ (r ≡ reflect n (pos i -ℤ pos back)) × (r < n) ⌝ }
 {
     if back <= i {

@@ -22,12 +22,12 @@ sized c = let a = c .before .before .args in all-yes (size-questions 2 (a .width
 returns-2 : tie.Need-returns-2
 returns-2 c =
     let a = c .before .before .before .args in
-    ask-later (size-questions 2 (a .width) (a .height)) (question 3 (leb (a .layout) 3) ∷ []) 3 (sized (c .before)) (search asking)
+    ask-later (size-questions 2 (a .width) (a .height)) (question 3 (leb (a .layout) 3) ∷ []) _ (sized (c .before)) (search asking)
 
 returns-3 : tie.Need-returns-3
 returns-3 c =
     let a = c .before .before .before .args in
-    ask-later (size-questions 2 (a .width) (a .height)) (question 3 (leb (a .layout) 3) ∷ []) 0 (sized (c .before)) (search asking)
+    ask-later (size-questions 2 (a .width) (a .height)) (question 3 (leb (a .layout) 3) ∷ []) _ (sized (c .before)) (search asking)
 
 pub shape-spec : {M : Type 1} → statement M
 shape-spec = tie.close (tie.spec sizes-requires returns returns-2 returns-3)

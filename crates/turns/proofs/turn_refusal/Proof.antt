@@ -28,17 +28,17 @@ mul-count c = let k = known c in record { fits = omega (arith, k .shape .area) }
 returns-2 : tie.Need-returns-2
 returns-2 c =
     let a = c .before .before .before .args in
-    ask-later (shape-turn-questions (a .turn) (a .width) (a .height) (a .layout)) _ 6 (known (c .before) .answers) (search asking)
+    ask-later (shape-turn-questions (a .turn) (a .width) (a .height) (a .layout)) _ _ (known (c .before) .answers) (search asking)
 
 returns-3 : tie.Need-returns-3
 returns-3 c =
     let a = c .before .before .before .before .args in
-    ask-later (shape-turn-questions (a .turn) (a .width) (a .height) (a .layout)) _ 7 (known (c .before .before) .answers) (search asking)
+    ask-later (shape-turn-questions (a .turn) (a .width) (a .height) (a .layout)) _ _ (known (c .before .before) .answers) (search asking)
 
 returns-4 : tie.Need-returns-4
 returns-4 c =
     let a = c .before .before .before .before .args in
-    ask-later (shape-turn-questions (a .turn) (a .width) (a .height) (a .layout)) _ 0 (known (c .before .before) .answers) (search asking)
+    ask-later (shape-turn-questions (a .turn) (a .width) (a .height) (a .layout)) _ _ (known (c .before .before) .answers) (search asking)
 
 pub turn-refusal-spec : {M : Type 1} → statement M
 turn-refusal-spec =

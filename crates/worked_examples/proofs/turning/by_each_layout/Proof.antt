@@ -3,8 +3,8 @@ use borrow.Author.Needs.{needs}
 use mathlib.Core.Path.{_≡_}
 use Prim.Native.Nat.{_≤_, _-_}
 use lib.ListN.{length}
-use Rattle.cases.proofs.turning.by_each_layout.Statement.{statement}
-use Rattle.cases.proofs.turning.by_each_layout.Tie as tie
+use Rattle.worked_examples.proofs.turning.by_each_layout.Statement.{statement}
+use Rattle.worked_examples.proofs.turning.by_each_layout.Tie as tie
 
 abbrev Inv-loop : tie.InvT-loop
 Inv-loop turn width height samples out₀ layout₀ out layout = (layout ≤ 4) × (length out ≡ length out₀)

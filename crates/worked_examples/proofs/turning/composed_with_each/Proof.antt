@@ -1,23 +1,17 @@
 -- `turning::composed_with_each` is safe and ends. Assumes nothing.
 use borrow.Author.Needs.{needs}
 use Prim.Native.Nat.{_≤_, _-_}
-use Rattle.cases.proofs.turning.composed_with_each.Statement.{statement}
-use Rattle.cases.proofs.turning.composed_with_each.Tie as tie
+use Rattle.worked_examples.proofs.turning.composed_with_each.Statement.{statement}
+use Rattle.worked_examples.proofs.turning.composed_with_each.Tie as tie
 
 abbrev Inv-loop : tie.InvT-loop
-Inv-loop first second₀ t3 second = second ≤ 9
+Inv-loop first second₀ second = second ≤ 9
 
 abbrev μ-loop : tie.MeasureT-loop
-μ-loop first second₀ t3 second = 9 - second
+μ-loop first second₀ second = 9 - second
 
 loop-holds : tie.Need-loop-holds Inv-loop μ-loop
 loop-holds c = search needs
-
-slice-aggregate-text : tie.Need-slice-aggregate-text Inv-loop μ-loop
-slice-aggregate-text c = search needs
-
-text-requires : tie.Need-text-requires Inv-loop μ-loop
-text-requires c κs = search needs
 
 composed-requires : tie.Need-composed-requires Inv-loop μ-loop
 composed-requires c κs = search needs
@@ -37,14 +31,4 @@ returns c = search needs
 pub composed-with-each-spec : {M : Type 1} → statement M
 composed-with-each-spec =
     tie.close
-    (tie.spec
-    Inv-loop
-    μ-loop
-    loop-holds
-    slice-aggregate-text
-    text-requires
-    composed-requires
-    add-second
-    loop-less
-    loop-again
-    returns)
+    (tie.spec Inv-loop μ-loop loop-holds composed-requires add-second loop-less loop-again returns)

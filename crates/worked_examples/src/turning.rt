@@ -7,6 +7,7 @@ use turns::TurnedFrame;
 use turns::TurnedLayout;
 
 fn composed(first: u8, second: u8) {
+    print::text(b" ");
     let answer = (Turn { number: first }).then_another(Turn { number: second });
     match answer {
         Composed::Single(turn) => print::number(turn.number as usize),
@@ -17,21 +18,24 @@ fn composed(first: u8, second: u8) {
 fn composed_with_each(first: u8) {
     let mut second = 0;
     while second < 9 {
-        print::text(b" ");
         composed(first, second);
         second += 1;
     }
+}
+
+fn compositions_of(first: u8) {
+    print::text(b"turn ");
+    print::number(first as usize);
+    print::text(b" then 0 to 8:");
+    composed_with_each(first);
+    print::text(b"\n");
 }
 
 // Each turn of 0 to 8, then each other.
 pub(crate) fn compositions() {
     let mut first = 0;
     while first < 9 {
-        print::text(b"turn ");
-        print::number(first as usize);
-        print::text(b" then 0 to 8:");
-        composed_with_each(first);
-        print::text(b"\n");
+        compositions_of(first);
         first += 1;
     }
 }
@@ -154,40 +158,52 @@ fn by_each_turn(width: usize, height: usize, samples: &[u16], out: &mut [u16]) {
     }
 }
 
+fn two_by_two() {
+    let mut out = [7u16; 4];
+    by_each_turn(2, 2, &[0u16, 1, 2, 3], &mut out);
+}
+
+fn three_by_two() {
+    let mut out = [7u16; 6];
+    by_each_turn(3, 2, &[0u16, 1, 2, 3, 4, 5], &mut out);
+}
+
+fn two_by_three() {
+    let mut out = [7u16; 6];
+    by_each_turn(2, 3, &[0u16, 1, 2, 3, 4, 5], &mut out);
+}
+
+fn five_by_four() {
+    let samples = [
+        0u16,
+        1,
+        2,
+        3,
+        4,
+        5,
+        6,
+        7,
+        8,
+        9,
+        10,
+        11,
+        12,
+        13,
+        14,
+        15,
+        16,
+        17,
+        18,
+        19,
+    ];
+    let mut out = [7u16; 20];
+    by_each_turn(5, 4, &samples, &mut out);
+}
+
 // Each sample is the number of its place.
 pub(crate) fn frames() {
-    let mut out = [7u16; 20];
-    let mut six_out = [7u16; 6];
-    let mut four_out = [7u16; 4];
-    let six = [0u16, 1, 2, 3, 4, 5];
-    by_each_turn(2, 2, &[0u16, 1, 2, 3], &mut four_out);
-    by_each_turn(3, 2, &six, &mut six_out);
-    by_each_turn(2, 3, &six, &mut six_out);
-    by_each_turn(
-        5,
-        4,
-        &[
-            0u16,
-            1,
-            2,
-            3,
-            4,
-            5,
-            6,
-            7,
-            8,
-            9,
-            10,
-            11,
-            12,
-            13,
-            14,
-            15,
-            16,
-            17,
-            18,
-            19,
-        ],
-        &mut out,
-    );
+    two_by_two();
+    three_by_two();
+    two_by_three();
+    five_by_four();
 }

@@ -3,8 +3,8 @@ use borrow.Author.Needs.{needs}
 use lib.ListN.{length}
 use mathlib.Core.Path.{_≡_}
 use Prim.Native.Nat.{_≤_, _-_}
-use Rattle.cases.proofs.turning.by_each_turn.Statement.{statement}
-use Rattle.cases.proofs.turning.by_each_turn.Tie as tie
+use Rattle.worked_examples.proofs.turning.by_each_turn.Statement.{statement}
+use Rattle.worked_examples.proofs.turning.by_each_turn.Tie as tie
 
 abbrev Inv-loop : tie.InvT-loop
 Inv-loop width height samples out₀ turn₀ out turn = (turn ≤ 8) × (length out ≡ length out₀)

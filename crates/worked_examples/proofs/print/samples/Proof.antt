@@ -2,23 +2,17 @@
 use borrow.Author.Needs.{needs}
 use lib.ListN.{length}
 use Prim.Native.Nat.{_≤_, _-_}
-use Rattle.cases.proofs.print.samples.Statement.{statement}
-use Rattle.cases.proofs.print.samples.Tie as tie
+use Rattle.worked_examples.proofs.print.samples.Statement.{statement}
+use Rattle.worked_examples.proofs.print.samples.Tie as tie
 
 abbrev Inv-loop : tie.InvT-loop
-Inv-loop values k₀ t3 k = k ≤ length values
+Inv-loop values k₀ k = k ≤ length values
 
 abbrev μ-loop : tie.MeasureT-loop
-μ-loop values k₀ t3 k = length values - k
+μ-loop values k₀ k = length values - k
 
 loop-holds : tie.Need-loop-holds Inv-loop μ-loop
 loop-holds c = search needs
-
-slice-aggregate-text : tie.Need-slice-aggregate-text Inv-loop μ-loop
-slice-aggregate-text c = search needs
-
-text-requires : tie.Need-text-requires Inv-loop μ-loop
-text-requires c κs = search needs
 
 mul-sample : tie.Need-mul-sample Inv-loop μ-loop
 mul-sample c = search needs
@@ -48,8 +42,6 @@ samples-spec =
     Inv-loop
     μ-loop
     loop-holds
-    slice-aggregate-text
-    text-requires
     mul-sample
     shared-slice-read-sample
     sample-requires

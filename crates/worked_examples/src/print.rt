@@ -9,20 +9,24 @@ pub(crate) fn number(n: usize) {
     io::print_decimal(STDOUT_FILENO, n as u64);
 }
 
+// A number after a space.
+pub(crate) fn spaced(n: usize) {
+    text(b" ");
+    number(n);
+}
+
 pub(crate) fn refused(n: u32) {
     text(b"refused ");
     number(n as usize);
 }
 
 fn sample(x: u16) {
-    number(x as usize);
+    spaced(x as usize);
 }
 
-// Samples, each after a space.
 pub(crate) fn samples(values: &[u16]) {
     let mut k = 0;
     while k < values.len() {
-        text(b" ");
         sample(values[k]);
         k += 1;
     }
