@@ -54,15 +54,19 @@ abbrev pub numbered : List Question → Bool
 numbered [] = true
 numbered (q ∷ qs) = cond (eqb (q .number) 0) false (numbered qs)
 
-pub all-yes : (qs : List Question) → T (numbered qs) → ask qs ≡ 0 → AllYes qs
+zero-yes : (qs : List Question) → T (numbered qs) → ask qs ≡ 0 → AllYes qs
 unfolding ask
-all-yes [] t e = tt
-all-yes (q ∷ qs) t e = let p = first (q .yes) (eqb (q .number) 0) refl t e in (p .0, all-yes qs (p .1) (p .2))
+zero-yes [] t e = tt
+zero-yes (q ∷ qs) t e = let p = first (q .yes) (eqb (q .number) 0) refl t e in (p .0, zero-yes qs (p .1) (p .2))
   where
     first : (b z : Bool) → eqb (q .number) 0 ≡ z → T (cond z false (numbered qs)) → cond b (ask qs) (q .number) ≡ 0 → (b ≡ true) × T (numbered qs) × (ask qs ≡ 0)
     first b true f t e = absurd t
     first true false f t e = (refl, t, e)
     first false false f t e = never (sym (eq-eqb (q .number) 0 e) ∙ f)
+
+-- where n is what a check of qs answered
+pub all-yes : (qs : List Question) → T (numbered qs) → (n : ℕ) → n ≡ ask qs → n ≡ 0 → AllYes qs
+all-yes qs t n e z = zero-yes qs t (sym e ∙ z)
 
 pub ask-zero : (qs : List Question) → AllYes qs → ask qs ≡ 0
 ask-zero [] y = sym ask-end

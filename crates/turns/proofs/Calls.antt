@@ -212,11 +212,11 @@ turned-samples e t w h l s f =
     p : Picture ℕ
     p = picture-of (frame w h l s)
 
-pub samples-high : (t w h l : ℕ) (s : List ℕ) → 4 ≤ t → listing h w (source-plane s (eqb (t % 2) 1) (eqb (t / 2 % 2) 1) h w 1 w) ≡ turn-frame t (frame w h l s) .samples
-samples-high t w h l s k = sym (turned-samples true t w h l s (le-leb 4 t k))
+pub samples-high : (t w h l : ℕ) (s : List ℕ) {out : List ℕ} → 4 ≤ t → out ≡ listing h w (source-plane s (eqb (t % 2) 1) (eqb (t / 2 % 2) 1) h w 1 w) → out ≡ turn-frame t (frame w h l s) .samples
+samples-high t w h l s k e = e ∙ sym (turned-samples true t w h l s (le-leb 4 t k))
 
-pub samples-low : (t w h l : ℕ) (s : List ℕ) → t < 4 → listing w h (source-plane s (eqb (t % 2) 1) (eqb (t / 2 % 2) 1) w h w 1) ≡ turn-frame t (frame w h l s) .samples
-samples-low t w h l s k = sym (turned-samples false t w h l s (lt-leb 4 t k))
+pub samples-low : (t w h l : ℕ) (s : List ℕ) {out : List ℕ} → t < 4 → out ≡ listing w h (source-plane s (eqb (t % 2) 1) (eqb (t / 2 % 2) 1) w h w 1) → out ≡ turn-frame t (frame w h l s) .samples
+samples-low t w h l s k e = e ∙ sym (turned-samples false t w h l s (lt-leb 4 t k))
 
 -- ---- what an accepted call knows
 pub record Turnable (t w h l : ℕ) : Type 0 where
@@ -224,9 +224,9 @@ pub record Turnable (t w h l : ℕ) : Type 0 where
   pub shape : Shape w h l
   pub answers : AllYes (shape-turn-questions t w h l)
 
-pub turnable : (t w h l : ℕ) → ask (shape-turn-questions t w h l) ≡ 0 → Turnable t w h l
-turnable t w h l e =
-    let y = all-yes (shape-turn-questions t w h l) tt e in
+pub turnable : (t w h l n : ℕ) → n ≡ ask (shape-turn-questions t w h l) → n ≡ 0 → Turnable t w h l
+turnable t w h l n e z =
+    let y = all-yes (shape-turn-questions t w h l) tt n e z in
     record { turn = leb-true t 7 (y .0); shape = shape-is w h l (y .1); answers = y }
 
 -- and the turning call
@@ -235,9 +235,9 @@ pub record Fillable (w h l given room : ℕ) : Type 0 where
   pub samples : given ≡ w * h
   pub buffer : room ≡ w * h
 
-pub fillable : (t w h l given room : ℕ) → ask (turn-questions t w h l given room) ≡ 0 → Fillable w h l given room
-fillable t w h l given room e =
-    let y = all-yes (turn-questions t w h l given room) tt e in
+pub fillable : (t w h l given room n : ℕ) → n ≡ ask (turn-questions t w h l given room) → n ≡ 0 → Fillable w h l given room
+fillable t w h l given room n e z =
+    let y = all-yes (turn-questions t w h l given room) tt n e z in
     record {
       shape = shape-is w h l (y .1 .0, (y .1 .1 .0, (y .1 .1 .1 .0, tt)));
       samples = eqb-true given (w * h) (y .1 .1 .1 .1 .0);
@@ -248,16 +248,16 @@ fillable t w h l given room e =
 pub turn-no : (t : ℕ) (f : Frame) (before : List ℕ) (n : ℕ) → n ≡ ask (frame-questions t f (length before)) → (n ≡ 0 → ⊥) → TurnResult t f before (Refused n) before
 turn-no t f before n e h = record {
   answer = answer-no number-of-frame (frame-questions t f (length before)) (accepted-as (turn-frame t f)) (Refused n) e h;
-  buffer = left-no (frame-questions t f (length before)) (turn-frame t f .samples) before (λ z. h (e ∙ z));
+  buffer = left-no (frame-questions t f (length before)) (turn-frame t f .samples) before n e h;
 }
 
-pub turn-yes : (t : ℕ) (f : Frame) (before after : List ℕ) (w h l : ℕ) → ask (frame-questions t f (length before)) ≡ 0
+pub turn-yes : (t : ℕ) (f : Frame) (before after : List ℕ) (w h l n : ℕ) → n ≡ ask (frame-questions t f (length before)) → n ≡ 0
     → w ≡ cond (leb 4 t) (f .height) (f .width) → h ≡ cond (leb 4 t) (f .width) (f .height) → l ≡ shape-turned t (f .width) (f .height) (f .layout) .layout
     → after ≡ turn-frame t f .samples → TurnResult t f before (Accepted w h l) after
-turn-yes t f before after w h l z p q r e = record {
-  answer = answer-yes number-of-frame (frame-questions t f (length before)) (accepted-as (turn-frame t f)) (Accepted w h l) z refl
+turn-yes t f before after w h l n a z p q r e = record {
+  answer = answer-yes number-of-frame (frame-questions t f (length before)) (accepted-as (turn-frame t f)) (Accepted w h l) n a z refl
       (λ i. Accepted ((p ∙ sym (frame-width t f)) i) ((q ∙ sym (frame-height t f)) i) ((r ∙ sym (frame-layout t f)) i));
-  buffer = e ∙ left-yes (frame-questions t f (length before)) (turn-frame t f .samples) before z;
+  buffer = e ∙ left-yes (frame-questions t f (length before)) (turn-frame t f .samples) before n a z;
 }
 
 -- the turned shape, by whether the turn exchanges

@@ -63,11 +63,11 @@ module _ {A : Type 0} where
   overwrite-no-row l o w f = overwrite-none l o f ∙ ap (λ (n : ℕ). overwrite l o n f) (sym (zero-mul w))
 
   -- a turn of the loop: row i, at place `at`
-  pub overwrite-row : (l : List A) (o w i : ℕ) (p : ℕ → ℕ → A) (g : ℕ → A) (at : ℕ) {m : List A} → at ≡ o + i * w → o + (i * w + w) ≤ length l
+  pub overwrite-row : (l : List A) (o w i : ℕ) (p : ℕ → ℕ → A) (g : ℕ → A) (at : ℕ) {m out : List A} → out ≡ overwrite m at w g → at ≡ o + i * w → o + (i * w + w) ≤ length l
       → m ≡ overwrite l o (i * w) (λ k. p (k / w) (k % w)) → ((j : ℕ) → j < w → g j ≡ p i j)
-      → overwrite m at w g ≡ overwrite l o ((i + 1) * w) (λ k. p (k / w) (k % w))
-  overwrite-row l o w i p g at z h e f =
-      (λ k. overwrite (e k) (z k) w g)
+      → out ≡ overwrite l o ((i + 1) * w) (λ k. p (k / w) (k % w))
+  overwrite-row l o w i p g at q z h e f =
+      q ∙ (λ k. overwrite (e k) (z k) w g)
       ∙ overwrite-append l o (i * w) w (λ k. p (k / w) (k % w)) g h (λ j b. f j b ∙ sym (λ k. p (digits-div i b k) (digits-mod i b k)))
       ∙ ap (λ (n : ℕ). overwrite l o n (λ k. p (k / w) (k % w))) next
     where

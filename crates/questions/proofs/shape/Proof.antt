@@ -1,5 +1,4 @@
 -- `questions::shape` meets its contract: 1 and 2 by `sizes`, then 3. Assumes nothing.
-use mathlib.Core.Path.{sym, _∙_}
 use mathlib.Core.List.{[], _∷_}
 use lib.Dec.{leb}
 use borrow.Author.Needs.{needs}
@@ -17,7 +16,7 @@ returns c =
     ask-first (size-questions 2 (a .width) (a .height)) (question 3 (leb (a .layout) 3) ∷ []) (c .before .sizes .result) (c .before .sizes .ensures) (c .if1 .taken)
 
 sized : (c : tie.Else1) → let a = c .before .before .args in AllYes (size-questions 2 (a .width) (a .height))
-sized c = let a = c .before .before .args in all-yes (size-questions 2 (a .width) (a .height)) tt (sym (c .before .sizes .ensures) ∙ c .if1 .left)
+sized c = let a = c .before .before .args in all-yes (size-questions 2 (a .width) (a .height)) tt (c .before .sizes .result) (c .before .sizes .ensures) (c .if1 .left)
 
 returns-2 : tie.Need-returns-2
 returns-2 c =

@@ -26,7 +26,7 @@ returns : tie.Need-returns
 returns c =
     let s = c .before .before .before .before .before .before .before in
     let a = s .args in
-    λ l. c .before .before .fill-rows .ensures ∙ samples-high (a .turn) (a .width) (a .height) l (now (a .samples)) (c .before .before .before .before .if1 .taken)
+    λ l. samples-high (a .turn) (a .width) (a .height) l (now (a .samples)) (c .before .before .before .before .if1 .taken) (c .before .before .fill-rows .ensures)
 
 fill-rows-requires-2 : tie.Need-fill-rows-requires-2
 fill-rows-requires-2 c κs =
@@ -41,7 +41,7 @@ returns-2 : tie.Need-returns-2
 returns-2 c =
     let s = c .before .before .before .before .before .before .before in
     let a = s .args in
-    λ l. c .before .before .fill-rows2 .ensures ∙ samples-low (a .turn) (a .width) (a .height) l (now (a .samples)) (c .before .before .before .before .if1 .left)
+    λ l. samples-low (a .turn) (a .width) (a .height) l (now (a .samples)) (c .before .before .before .before .if1 .left) (c .before .before .fill-rows2 .ensures)
 
 pub fill-spec : {M : Type 1} → statement M
 fill-spec =

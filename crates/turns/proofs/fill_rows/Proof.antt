@@ -7,7 +7,7 @@ use lib.Dec.{eqb}
 use lib.ListN.{length}
 use denote.Ref.{now}
 use Rattle.integers.specs.Lists.{overwrite}
-use Rattle.turns.specs.Filling.{source-plane}
+use Rattle.turns.specs.Filling.{source-row, source-plane}
 use Rattle.turns.proofs.Frames.{row-room, overwrite-no-row, overwrite-row, overwrite-plane}
 use Rattle.turns.proofs.Calls.{plane-sample}
 use Rattle.turns.proofs.fill_rows.Statement.{statement}
@@ -63,10 +63,10 @@ loop-again c =
     let a = l .before .before .before .args in
     let m = c .before .before .before .before .mirrored in
     let lr = eqb (a .left-right) 1 in
-    let tb = eqb (a .top-bottom) 1 in (
+    let tb = eqb (a .top-bottom) 1 in
+    let p = source-plane (now (a .samples)) lr tb (a .columns) (a .rows) (a .row-step) (a .column-step) in (
       omega arith,
-      c .before .before .fill-row .ensures
-          ∙ overwrite-row (now (a .out)) 0 (a .columns) (l .loop .i) (source-plane (now (a .samples)) lr tb (a .columns) (a .rows) (a .row-step) (a .column-step)) _ (l .loop .i * a .columns) (omega arith) (omega (arith, room (c .before .before .before .before))) (l .loop .inv .1)
+      overwrite-row (now (a .out)) 0 (a .columns) (l .loop .i) p (source-row (now (a .samples)) lr (a .columns) (m .result * a .row-step) (a .column-step)) (l .loop .i * a .columns) (c .before .before .fill-row .ensures) (omega arith) (omega (arith, room (c .before .before .before .before))) (l .loop .inv .1)
           (λ j b. plane-sample (now (a .samples)) lr tb (a .columns) (a .rows) (a .row-step) (a .column-step) (l .loop .i) (m .result) j (m .ensures .0)),
       omega arith,
     )

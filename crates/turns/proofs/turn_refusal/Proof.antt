@@ -1,6 +1,5 @@
 -- `turns::turn_refusal` meets its contract: the shape's questions, then 6 and 7.
 -- Assumes nothing.
-use mathlib.Core.Path.{sym, _∙_}
 use native.Mathlib.Omega.{arith}
 use borrow.Author.Needs.{needs}
 use Rattle.questions.proofs.Asking.{asking, ask-first, ask-later}
@@ -20,7 +19,7 @@ returns c =
 known : (c : tie.Else1) → let a = c .before .before .args in Turnable (a .turn) (a .width) (a .height) (a .layout)
 known c =
     let a = c .before .before .args in
-    turnable (a .turn) (a .width) (a .height) (a .layout) (sym (c .before .shape-refusal .ensures) ∙ c .if1 .left)
+    turnable (a .turn) (a .width) (a .height) (a .layout) (c .before .shape-refusal .result) (c .before .shape-refusal .ensures) (c .if1 .left)
 
 mul-count : tie.Need-mul-count
 mul-count c = let k = known c in record { fits = omega (arith, k .shape .area) }

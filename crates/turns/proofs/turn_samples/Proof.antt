@@ -1,6 +1,5 @@
 -- `turns::turn_samples` meets its contract: one check, one branch, and then the turned samples.
 -- Assumes nothing.
-use mathlib.Core.Path.{sym, _∙_}
 use native.Mathlib.Omega.{arith}
 use lib.ListN.{length}
 use denote.Ref.{now}
@@ -22,7 +21,7 @@ known : (c : tie.Else1)
     → let a = c .before .before .before .before .args in Fillable (a .width) (a .height) (a .layout) (length (now (a .samples))) (length (now (a .out)))
 known c =
     let a = c .before .before .before .before .args in
-    fillable (a .turn .number) (a .width) (a .height) (a .layout) (length (now (a .samples))) (length (now (a .out))) (sym (c .before .turn-refusal .ensures) ∙ c .if1 .left)
+    fillable (a .turn .number) (a .width) (a .height) (a .layout) (length (now (a .samples))) (length (now (a .out))) (c .before .turn-refusal .result) (c .before .turn-refusal .ensures) (c .if1 .left)
 
 fill-requires : tie.Need-fill-requires
 fill-requires c κs = let k = known (c .before) in (omega (arith, k .shape .width-from), omega (arith, k .shape .height-from), k .samples, k .buffer)
@@ -43,7 +42,7 @@ returns-2 : tie.Need-returns-2
 returns-2 c =
     let e = c .before .before .before .before .before .before .before in
     let a = e .before .before .before .before .args in
-    turn-yes (a .turn .number) (frame (a .width) (a .height) (a .layout) (now (a .samples))) (now (a .out)) _ _ _ _ (sym (e .before .turn-refusal .ensures) ∙ e .if1 .left)
+    turn-yes (a .turn .number) (frame (a .width) (a .height) (a .layout) (now (a .samples))) (now (a .out)) _ _ _ _ (e .before .turn-refusal .result) (e .before .turn-refusal .ensures) (e .if1 .left)
     (c .before .before .if-exchanged .ensures) (c .before .if-exchanged2 .ensures) (c .layout-after .ensures)
     (c .before .before .before .before .before .fill .ensures (a .layout))
 

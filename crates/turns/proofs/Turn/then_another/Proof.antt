@@ -1,6 +1,6 @@
 -- `Turn::then_another` meets its contract: 16 of both turns, then the single turn.
 -- Assumes nothing.
-use mathlib.Core.Path.{refl, ap, sym}
+use mathlib.Core.Path.{refl, ap}
 use native.Mathlib.Omega.{arith}
 use borrow.Author.Needs.{needs}
 use Rattle.questions.proofs.Asking.{asking}
@@ -26,7 +26,7 @@ single-requires c κs = search needs
 returns-3 : tie.Need-returns-3
 returns-3 c =
     let a = c .before .before .before .args in
-    answer-yes number-of-composed (then-questions (a .self .number) (a .next .number)) _ _ (sym (search asking)) refl
+    answer-yes number-of-composed (then-questions (a .self .number) (a .next .number)) _ _ 0 (search asking) refl refl
     (ap (λ n. Single (record { number = n })) (c .single .ensures))
 
 pub then-another-spec : {M : Type 1} → statement M

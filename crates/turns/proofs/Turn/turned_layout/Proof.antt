@@ -1,6 +1,6 @@
 -- `Turn::turned_layout` meets its contract.
 -- Assumes nothing.
-use mathlib.Core.Path.{refl, ap, sym, _∙_}
+use mathlib.Core.Path.{refl, ap}
 use borrow.Author.Needs.{needs}
 use Rattle.questions.proofs.Answering.{answer-no, answer-yes}
 use Rattle.turns.specs.Turning.{shape-turn-questions, number-of-layout}
@@ -20,13 +20,13 @@ returns c =
 layout-after-requires : tie.Need-layout-after-requires
 layout-after-requires c κs =
     let a = c .before .before .args in
-    turnable (a .self .number) (a .width) (a .height) (a .layout) (sym (c .before .shape-refusal .ensures) ∙ c .if1 .left) .shape .layout-to
+    turnable (a .self .number) (a .width) (a .height) (a .layout) (c .before .shape-refusal .result) (c .before .shape-refusal .ensures) (c .if1 .left) .shape .layout-to
 
 returns-2 : tie.Need-returns-2
 returns-2 c =
     let a = c .before .before .before .args in
     answer-yes number-of-layout (shape-turn-questions (a .self .number) (a .width) (a .height) (a .layout)) _ _
-    (sym (c .before .before .shape-refusal .ensures) ∙ c .before .if1 .left) refl
+    (c .before .before .shape-refusal .result) (c .before .before .shape-refusal .ensures) (c .before .if1 .left) refl
     (ap (λ n. Layout n) (c .layout-after .ensures))
 
 pub turned-layout-spec : {M : Type 1} → statement M

@@ -24,7 +24,7 @@ returns-2 : tie.Need-returns-2
 returns-2 c =
     let a = c .before .before .before .args in
     answer-yes number-of-extent (shape-turn-questions (a .self .number) (a .width) (a .height) (a .layout)) _ _
-    (sym (c .before .before .shape-refusal .ensures) ∙ c .before .if1 .left) refl
+    (c .before .before .shape-refusal .result) (c .before .before .shape-refusal .ensures) (c .before .if1 .left) refl
     (ap (λ n. Places n) (c .if-exchanged .ensures ∙ sym (shape-width (a .self .number) (a .width) (a .height) (a .layout))))
 
 pub turned-width-spec : {M : Type 1} → statement M
