@@ -11,7 +11,8 @@ until-inside zero n i = 0
 until-inside (suc steps) n (negsuc m) = until-inside steps n (pos (suc m))
 until-inside (suc steps) n (pos m) = elim (ltb m n) [ true ↦ m | false ↦ until-inside steps n (pos (2 * (n - 1)) -ℤ pos m) ]
 
--- The place that index i of a line of n means. Two steps bring an index at least 2 nearer, so |i| + 2 are enough.
+-- The place that index i of a line of n means. Two steps bring an index at least 2 nearer, so |i| + 2 are enough. (A line of
+-- none has no place, and no call asks for one.)
 unfoldable pub reflect : ℕ → ℤ → ℕ
 reflect zero i = 0
 reflect (suc zero) i = 0

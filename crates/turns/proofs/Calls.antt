@@ -21,23 +21,36 @@ use Rattle.turns.proofs.Pictures.{row-lt, column-lt, row-of, column-of,
 
 -- ---- then-another, by one computed test over all pairs
 -- as the code has it: the second turn exchanges, or not
-exchanging : ℕ → ℕ → ℕ
+abbrev exchanging : ℕ → ℕ → ℕ
 exchanging s t = 4 * ((s / 4 + 1) % 2) + 2 * ((s % 2 + t / 2) % 2) + (s / 2 + t) % 2
 
-mirroring : ℕ → ℕ → ℕ
+abbrev mirroring : ℕ → ℕ → ℕ
 mirroring s t = 4 * (s / 4) + 2 * ((s / 2 + t / 2) % 2) + (s + t) % 2
 
 single-is : (s t : ℕ) → s ≤ 7 → t ≤ 7 → cond (leb 4 t) (exchanging s t) (mirroring s t) ≡ then-another s t
-unfolding exchanging mirroring then-another number-of-steps followed-by steps-of xor
+unfolding then-another number-of-steps followed-by steps-of xor
 single-is s t hs ht = equal-below 8 8 (λ s t. cond (leb 4 t) (exchanging s t) (mirroring s t)) then-another tt s t (omega arith) (omega arith)
 
-pub single-high : (s t : ℕ) → s ≤ 7 → t ≤ 7 → 4 ≤ t → 4 * ((s / 4 + 1) % 2) + 2 * ((s % 2 + t / 2) % 2) + (s / 2 + t) % 2 ≡ then-another s t
-unfolding exchanging
+pub single-high : (s t : ℕ) → s ≤ 7 → t ≤ 7 → 4 ≤ t → exchanging s t ≡ then-another s t
 single-high s t hs ht h = sym (ap (λ (b : Bool). cond b (exchanging s t) (mirroring s t)) (le-leb 4 t h)) ∙ single-is s t hs ht
 
-pub single-low : (s t : ℕ) → s ≤ 7 → t ≤ 7 → t < 4 → 4 * (s / 4) + 2 * ((s / 2 + t / 2) % 2) + (s + t) % 2 ≡ then-another s t
-unfolding mirroring
+pub single-low : (s t : ℕ) → s ≤ 7 → t ≤ 7 → t < 4 → mirroring s t ≡ then-another s t
 single-low s t hs ht h = sym (ap (λ (b : Bool). cond b (exchanging s t) (mirroring s t)) (lt-leb 4 t h)) ∙ single-is s t hs ht
+
+-- whether turn t mirrors left-right, and top-bottom
+abbrev lr-of : ℕ → Bool
+lr-of t = eqb (t % 2) 1
+
+abbrev tb-of : ℕ → Bool
+tb-of t = eqb (t / 2 % 2) 1
+
+-- ---- a layout after a step
+-- a step that changes red's row parity by F and its column parity by G
+parities-by : (F G : ℕ → ℕ) (k l r c : ℕ) → r < 2 → c < 2 → k ≡ with-parities l r c → with-parities k (F (red-row k)) (G (red-column k)) ≡ with-parities l (F r) (G c)
+parities-by F G k l r c hr hc e =
+    ap (λ (x : ℕ). with-parities x (F (red-row x)) (G (red-column x))) e
+    ∙ (λ i. with-parities (with-parities l r c) (F (row-of l r c hr hc i)) (G (column-of l r c hr hc i)))
+    ∙ parities-again l r c (F r) (G c) hr hc
 
 -- ---- the turned width, height and places, by the turn's steps
 module _ {A : Type 0} where
@@ -58,9 +71,9 @@ module _ {A : Type 0} where
   seen false false true p = record { wide = refl; high = refl; from = λ i j. refl }
   seen false false false p = record { wide = refl; high = refl; from = λ i j. refl }
 
-  turned-seen : (t : ℕ) (p : Picture A) → Seen (leb 4 t) (eqb (t % 2) 1) (eqb (t / 2 % 2) 1) p (turned t p)
+  turned-seen : (t : ℕ) (p : Picture A) → Seen (leb 4 t) (lr-of t) (tb-of t) p (turned t p)
   unfolding turned turned-by steps-of
-  turned-seen t p = seen (leb 4 t) (eqb (t % 2) 1) (eqb (t / 2 % 2) 1) p
+  turned-seen t p = seen (leb 4 t) (lr-of t) (tb-of t) p
 
   pub turned-width : (t : ℕ) (p : Picture A) → turned t p .width ≡ cond (leb 4 t) (p .height) (p .width)
   turned-width t p = turned-seen t p .wide
@@ -71,17 +84,11 @@ module _ {A : Type 0} where
   -- ---- the turned layout
   mirror-columns : (b : Bool) (q : Picture A) (l r c : ℕ) → r < 2 → c < 2 → q .layout ≡ with-parities l r c → if-so b left-right q .layout ≡ with-parities l r (cond b (flip-if-even (q .width) c) c)
   mirror-columns false q l r c hr hc e = e
-  mirror-columns true q l r c hr hc e = unfold left-right in
-      ap (λ (k : ℕ). with-parities k (red-row k) (flip-if-even (q .width) (red-column k))) e
-      ∙ (λ i. with-parities (with-parities l r c) (row-of l r c hr hc i) (flip-if-even (q .width) (column-of l r c hr hc i)))
-      ∙ parities-again l r c r (flip-if-even (q .width) c) hr hc
+  mirror-columns true q l r c hr hc e = unfold left-right in parities-by (λ x. x) (flip-if-even (q .width)) (q .layout) l r c hr hc e
 
   mirror-rows : (b : Bool) (q : Picture A) (l r c : ℕ) → r < 2 → c < 2 → q .layout ≡ with-parities l r c → if-so b top-bottom q .layout ≡ with-parities l (cond b (flip-if-even (q .height) r) r) c
   mirror-rows false q l r c hr hc e = e
-  mirror-rows true q l r c hr hc e = unfold top-bottom in
-      ap (λ (k : ℕ). with-parities k (flip-if-even (q .height) (red-row k)) (red-column k)) e
-      ∙ (λ i. with-parities (with-parities l r c) (flip-if-even (q .height) (row-of l r c hr hc i)) (column-of l r c hr hc i))
-      ∙ parities-again l r c (flip-if-even (q .height) r) c hr hc
+  mirror-rows true q l r c hr hc e = unfold top-bottom in parities-by (flip-if-even (q .height)) (λ x. x) (q .layout) l r c hr hc e
 
   -- red's parities after the turn
   turned-layout : (e lr tb : Bool) (p : Picture A)
@@ -105,26 +112,18 @@ module _ {A : Type 0} where
       c′ : ℕ
       c′ = cond lr (flip-if-even (if-so e exchanged p .width) c) c
 
+      either : (b : Bool) {x y : ℕ} → x < 2 → y < 2 → cond b x y < 2
+      either true hx hy = hx
+      either false hx hy = hy
+
       row : r < 2
-      row = either e
-        where
-          either : (e : Bool) → cond e (red-column l) (red-row l) < 2
-          either true = column-lt l
-          either false = row-lt l
+      row = either e (column-lt l) (row-lt l)
 
       column : c < 2
-      column = either e
-        where
-          either : (e : Bool) → cond e (red-row l) (red-column l) < 2
-          either true = row-lt l
-          either false = column-lt l
+      column = either e (row-lt l) (column-lt l)
 
       below : c′ < 2
-      below = either lr
-        where
-          either : (b : Bool) → cond b (flip-if-even (if-so e exchanged p .width) c) c < 2
-          either true = flip-lt (if-so e exchanged p .width) c column
-          either false = column
+      below = either lr (flip-lt (if-so e exchanged p .width) c column) column
 
       first : (e : Bool) → if-so e exchanged p .layout ≡ with-parities l (cond e (red-column l) (red-row l)) (cond e (red-row l) (red-column l))
       first true = unfold exchanged in refl
@@ -146,25 +145,25 @@ unfolding with-parities
 small-layout l a b h = omega arith
 
 layout-after : (e : Bool) (t w h l a b : ℕ) → leb 4 t ≡ e → l ≤ 3
-    → a ≡ cond (eqb (t / 2 % 2) 1) (flip-if-even (cond e w h) (cond e (l % 2) (l / 2 % 2))) (cond e (l % 2) (l / 2 % 2))
-    → b ≡ cond (eqb (t % 2) 1) (flip-if-even (cond e h w) (cond e (l / 2 % 2) (l % 2))) (cond e (l / 2 % 2) (l % 2))
+    → a ≡ cond (tb-of t) (flip-if-even (cond e w h) (cond e (l % 2) (l / 2 % 2))) (cond e (l % 2) (l / 2 % 2))
+    → b ≡ cond (lr-of t) (flip-if-even (cond e h w) (cond e (l / 2 % 2) (l % 2))) (cond e (l / 2 % 2) (l % 2))
     → 2 * a + b ≡ shape-turned t w h l .layout
 unfolding shape-turned turned turned-by steps-of red-row red-column
 layout-after e t w h l a b f small p q =
     small-layout l a b small ∙ (λ i. with-parities l (p i) (q i))
-    ∙ sym (turned-layout e (eqb (t % 2) 1) (eqb (t / 2 % 2) 1) blank)
-    ∙ ap (λ (x : Bool). if-so (eqb (t / 2 % 2) 1) top-bottom (if-so (eqb (t % 2) 1) left-right (if-so x exchanged blank)) .layout) (sym f)
+    ∙ sym (turned-layout e (lr-of t) (tb-of t) blank)
+    ∙ ap (λ (x : Bool). if-so (tb-of t) top-bottom (if-so (lr-of t) left-right (if-so x exchanged blank)) .layout) (sym f)
   where
     blank : Picture Unit
     blank = record { width = w; height = h; layout = l; at = λ r c. tt }
 
 pub layout-high : (t w h l a b : ℕ) → 4 ≤ t → l ≤ 3
-    → a ≡ cond (eqb (t / 2 % 2) 1) (flip-if-even w (l % 2)) (l % 2) → b ≡ cond (eqb (t % 2) 1) (flip-if-even h (l / 2 % 2)) (l / 2 % 2)
+    → a ≡ cond (tb-of t) (flip-if-even w (l % 2)) (l % 2) → b ≡ cond (lr-of t) (flip-if-even h (l / 2 % 2)) (l / 2 % 2)
     → 2 * a + b ≡ shape-turned t w h l .layout
 layout-high t w h l a b k = layout-after true t w h l a b (le-leb 4 t k)
 
 pub layout-low : (t w h l a b : ℕ) → t < 4 → l ≤ 3
-    → a ≡ cond (eqb (t / 2 % 2) 1) (flip-if-even h (l / 2 % 2)) (l / 2 % 2) → b ≡ cond (eqb (t % 2) 1) (flip-if-even w (l % 2)) (l % 2)
+    → a ≡ cond (tb-of t) (flip-if-even h (l / 2 % 2)) (l / 2 % 2) → b ≡ cond (lr-of t) (flip-if-even w (l % 2)) (l % 2)
     → 2 * a + b ≡ shape-turned t w h l .layout
 layout-low t w h l a b k = layout-after false t w h l a b (lt-leb 4 t k)
 
@@ -180,42 +179,37 @@ frame-height t f = unfold picture-of in turned-height t (picture-of f)
 pub frame-layout : (t : ℕ) (f : Frame) → turn-frame t f .layout ≡ shape-turned t (f .width) (f .height) (f .layout) .layout
 unfolding turn-frame frame-of shape-turned turned turned-by steps-of picture-of
 frame-layout t f =
-    turned-layout (leb 4 t) (eqb (t % 2) 1) (eqb (t / 2 % 2) 1) (picture-of f)
-    ∙ sym (turned-layout (leb 4 t) (eqb (t % 2) 1) (eqb (t / 2 % 2) 1) (record { width = f .width; height = f .height; layout = f .layout; at = λ r c. tt }))
+    turned-layout (leb 4 t) (lr-of t) (tb-of t) (picture-of f)
+    ∙ sym (turned-layout (leb 4 t) (lr-of t) (tb-of t) (record { width = f .width; height = f .height; layout = f .layout; at = λ r c. tt }))
 
 -- ---- the turned samples
--- as rows of the given ones, `rs` and `cs` apart
-turned-from : (t w h l : ℕ) (s : List ℕ) (i j : ℕ) → turned t (picture-of (frame w h l s)) .at i j
-    ≡ cond (leb 4 t) (source-plane s (eqb (t % 2) 1) (eqb (t / 2 % 2) 1) h w 1 w i j) (source-plane s (eqb (t % 2) 1) (eqb (t / 2 % 2) 1) w h w 1 i j)
+-- as rows of the given ones: their columns where the turn exchanges, else their rows
+abbrev source : Bool → ℕ → ℕ → ℕ → List ℕ → ℕ → ℕ → ℕ
+source e t w h s i j = cond e (source-plane s (lr-of t) (tb-of t) h w 1 w i j) (source-plane s (lr-of t) (tb-of t) w h w 1 i j)
+
+turned-from : (t w h l : ℕ) (s : List ℕ) (i j : ℕ) → turned t (picture-of (frame w h l s)) .at i j ≡ source (leb 4 t) t w h s i j
 unfolding source-plane source-row
 turned-from t w h l s i j = turned-seen t (picture-of (frame w h l s)) .from i j ∙ (unfold picture-of plane-of in (λ k. cond (leb 4 t) (getD s (high k) 0) (getD s (low k) 0)))
   where
-    lr : Bool
-    lr = eqb (t % 2) 1
-
-    tb : Bool
-    tb = eqb (t / 2 % 2) 1
-
-    high : mirror-place lr h j * w + mirror-place tb w i ≡ mirror-place tb w i * 1 + mirror-place lr h j * w
+    high : mirror-place (lr-of t) h j * w + mirror-place (tb-of t) w i ≡ mirror-place (tb-of t) w i * 1 + mirror-place (lr-of t) h j * w
     high = omega arith
 
-    low : mirror-place tb h i * w + mirror-place lr w j ≡ mirror-place tb h i * w + mirror-place lr w j * 1
+    low : mirror-place (tb-of t) h i * w + mirror-place (lr-of t) w j ≡ mirror-place (tb-of t) h i * w + mirror-place (lr-of t) w j * 1
     low = omega arith
 
-turned-samples : (e : Bool) (t w h l : ℕ) (s : List ℕ) → leb 4 t ≡ e → turn-frame t (frame w h l s) .samples
-    ≡ listing (cond e h w) (cond e w h) (λ i j. cond e (source-plane s (eqb (t % 2) 1) (eqb (t / 2 % 2) 1) h w 1 w i j) (source-plane s (eqb (t % 2) 1) (eqb (t / 2 % 2) 1) w h w 1 i j))
+turned-samples : (e : Bool) (t w h l : ℕ) (s : List ℕ) → leb 4 t ≡ e → turn-frame t (frame w h l s) .samples ≡ listing (cond e h w) (cond e w h) (source e t w h s)
 unfolding turn-frame frame-of
 turned-samples e t w h l s f =
     (λ i. listing (turned-width t p i) (turned-height t p i) (λ a b. turned-from t w h l s a b i))
-    ∙ (unfold picture-of in (λ i. listing (cond (f i) h w) (cond (f i) w h) (λ a b. cond (f i) (source-plane s (eqb (t % 2) 1) (eqb (t / 2 % 2) 1) h w 1 w a b) (source-plane s (eqb (t % 2) 1) (eqb (t / 2 % 2) 1) w h w 1 a b))))
+    ∙ (unfold picture-of in (λ i. listing (cond (f i) h w) (cond (f i) w h) (source (f i) t w h s)))
   where
     p : Picture ℕ
     p = picture-of (frame w h l s)
 
-pub samples-high : (t w h l : ℕ) (s : List ℕ) {out : List ℕ} → 4 ≤ t → out ≡ listing h w (source-plane s (eqb (t % 2) 1) (eqb (t / 2 % 2) 1) h w 1 w) → out ≡ turn-frame t (frame w h l s) .samples
+pub samples-high : (t w h l : ℕ) (s : List ℕ) {out : List ℕ} → 4 ≤ t → out ≡ listing h w (source-plane s (lr-of t) (tb-of t) h w 1 w) → out ≡ turn-frame t (frame w h l s) .samples
 samples-high t w h l s k e = e ∙ sym (turned-samples true t w h l s (le-leb 4 t k))
 
-pub samples-low : (t w h l : ℕ) (s : List ℕ) {out : List ℕ} → t < 4 → out ≡ listing w h (source-plane s (eqb (t % 2) 1) (eqb (t / 2 % 2) 1) w h w 1) → out ≡ turn-frame t (frame w h l s) .samples
+pub samples-low : (t w h l : ℕ) (s : List ℕ) {out : List ℕ} → t < 4 → out ≡ listing w h (source-plane s (lr-of t) (tb-of t) w h w 1) → out ≡ turn-frame t (frame w h l s) .samples
 samples-low t w h l s k e = e ∙ sym (turned-samples false t w h l s (lt-leb 4 t k))
 
 -- ---- what an accepted call knows

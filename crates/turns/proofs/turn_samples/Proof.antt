@@ -15,13 +15,13 @@ turn-refusal-requires c κs = search needs
 returns : tie.Need-returns
 returns c =
     let a = c .before .before .before .before .args in
-    turn-no (a .turn .number) (frame (a .width) (a .height) (a .layout) (now (a .samples))) (now (a .out)) (c .before .turn-refusal .result) (c .before .turn-refusal .ensures) (c .if1 .taken)
+    turn-no (a .turn .number) (frame (a .width) (a .height) (a .layout) (now (a .samples))) (now (a .out)) (c .before .turn-refusal .result) (c .before .turn-refusal .ensures) (λ z. omega arith)
 
 known : (c : tie.Else1)
     → let a = c .before .before .before .before .args in Fillable (a .width) (a .height) (a .layout) (length (now (a .samples))) (length (now (a .out)))
 known c =
     let a = c .before .before .before .before .args in
-    fillable (a .turn .number) (a .width) (a .height) (a .layout) (length (now (a .samples))) (length (now (a .out))) (c .before .turn-refusal .result) (c .before .turn-refusal .ensures) (c .if1 .left)
+    fillable (a .turn .number) (a .width) (a .height) (a .layout) (length (now (a .samples))) (length (now (a .out))) (c .before .turn-refusal .result) (c .before .turn-refusal .ensures) (omega arith)
 
 fill-requires : tie.Need-fill-requires
 fill-requires c κs = let k = known (c .before) in (omega (arith, k .shape .width-from), omega (arith, k .shape .height-from), k .samples, k .buffer)
