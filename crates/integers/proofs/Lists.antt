@@ -1,5 +1,7 @@
--- The laws of tabulated and overwritten lists: lengths, what is read, one store more, one part after another. Assumes nothing.
+-- The laws of tabulated and overwritten lists: lengths, what is read, one store more, one part after another; and of the test
+-- whether two lists are the same. Assumes nothing.
 use mathlib.Core.Path.{_≡_, refl, sym, ap, _∙_, subst}
+use mathlib.Core.Bool.{Bool, true, false, _&&_}
 use mathlib.Core.List.{List, [], _∷_, _++_, append-assoc, append-nil}
 use mathlib.Core.Logic.{⊎-elim}
 use Prim.Native.Nat.{ℕ, zero, suc, _+_, _-_, _≤_, _<_}
@@ -9,7 +11,10 @@ use native.Mathlib.Numerals.{add-one}
 use native.Mathlib.Omega.{arith}
 use lib.ListN.{length, take, drop, getD, set, length-append, length-drop, take-append-drop, List·getD-append, drop-of-length-le}
 use lib.Seq.{drop-cons, set-at, append-snoc, getD-append-add, getD-take, getD-drop, length-take-le, ext-getD, getD-at}
-use Rattle.integers.specs.Lists.{tabulate, overwrite}
+use lib.Dec.{eqb, eqb→eq}
+use borrow.Author.Tests.{eq-eqb}
+use Rattle.integers.specs.Lists.{tabulate, overwrite, same-list}
+use Rattle.integers.proofs.Tests.{is-true, true-is, never, and-left, and-right}
 
 module _ {A : Type 0} where
   -- ---- tabulated
@@ -31,6 +36,12 @@ module _ {A : Type 0} where
   unfolding tabulate
   tabulate-cong zero f g h = refl
   tabulate-cong (suc n) f g h = (λ j. tabulate-cong n f g (λ i l. h i (omega arith)) j ++ (h n (omega arith) j ∷ []))
+
+  -- the first element by itself
+  pub tabulate-cons : (n : ℕ) (f : ℕ → A) → tabulate (suc n) f ≡ f 0 ∷ tabulate n (λ k. f (suc k))
+  unfolding tabulate
+  tabulate-cons zero f = refl
+  tabulate-cons (suc n) f = ap (λ (l : List A). l ++ (f (suc n) ∷ [])) (tabulate-cons n f)
 
   -- a list is its elements in order
   pub tabulate-getD : (l : List A) (n : ℕ) (d : A) → length l ≡ n → tabulate n (λ i. getD l i d) ≡ l
@@ -154,3 +165,30 @@ module _ {A : Type 0} where
 
       fit : a + m ≤ length R
       fit = omega (arith, long-r)
+
+-- ---- the same numbers
+pub same-list-yes : (l m : List ℕ) → l ≡ m → same-list l m ≡ true
+unfolding same-list
+same-list-yes l m e = ap (same-list l) (sym e) ∙ itself l
+  where
+    itself : (l : List ℕ) → same-list l l ≡ true
+    itself [] = refl
+    itself (x ∷ xs) = λ j. eq-eqb x x refl j && itself xs j
+
+pub same-list-is : (l m : List ℕ) → same-list l m ≡ true → l ≡ m
+unfolding same-list
+same-list-is [] [] e = refl
+same-list-is [] (y ∷ ys) e = never (sym e)
+same-list-is (x ∷ xs) [] e = never (sym e)
+same-list-is (x ∷ xs) (y ∷ ys) e =
+    let t = true-is e in
+    let p = eqb→eq x y (and-left (eqb x y) (same-list xs ys) t) in
+    let q = same-list-is xs ys (is-true (same-list xs ys) (and-right (eqb x y) (same-list xs ys) t)) in
+    λ j. p j ∷ q j
+
+pub same-list-no : (l m : List ℕ) → (l ≡ m → ⊥) → same-list l m ≡ false
+same-list-no l m n = either (same-list l m) refl
+  where
+    either : (b : Bool) → same-list l m ≡ b → b ≡ false
+    either true e = absurd (n (same-list-is l m e))
+    either false e = refl

@@ -21,6 +21,10 @@ is-true false t = absurd t
 pub true-is : {b : Bool} → b ≡ true → T b
 true-is e = subst T (sym e) tt
 
+pub not-is : (b c : Bool) → not b ≡ c → b ≡ not c
+not-is true c e = ap not e
+not-is false c e = ap not e
+
 pub never {ℓ} : {X : Type ℓ} → true ≡ false → X
 never e = absurd (let z : _≡_ {A = ℕ} 0 1 = ap (λ (b : Bool). cond b 0 1) e in omega arith)
 

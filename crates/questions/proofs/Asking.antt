@@ -7,9 +7,9 @@ use native.Mathlib.Nat.{mul-le-mul}
 use native.Mathlib.Numerals.{add-one}
 use native.Mathlib.Omega.{arith}
 use lib.Dec.{T, leb, eqb, le→leb, leb→le}
-use lib.ListN.{length, drop, getD, drop-of-length-le}
-use lib.Seq.{drop-cons}
+use lib.ListN.{length, getD}
 use borrow.Author.Tests.{le-leb, lt-leb, eq-eqb, ne-eqb, leb-true}
+use Rattle.integers.specs.Lists.{tabulate}
 use Rattle.integers.proofs.Tests.{never, and-left, and-right, both, same-test}
 use Rattle.questions.specs.Questions.{Question, question, ask, between, all-at-most, shape-questions}
 
@@ -68,6 +68,14 @@ zero-yes (q ∷ qs) t e = let p = first (q .yes) (eqb (q .number) 0) refl t e in
 pub all-yes : (qs : List Question) → T (numbered qs) → (n : ℕ) → n ≡ ask qs → n ≡ 0 → AllYes qs
 all-yes qs t n e z = zero-yes qs t (sym e ∙ z)
 
+pub all-yes-split : (ps qs : List Question) → AllYes (ps ++ qs) → AllYes ps × AllYes qs
+all-yes-split [] qs y = (tt, y)
+all-yes-split (p ∷ ps) qs y = let r = all-yes-split ps qs (y .1) in ((y .0, r .0), r .1)
+
+pub all-yes-both : (ps qs : List Question) → AllYes ps → AllYes qs → AllYes (ps ++ qs)
+all-yes-both [] qs y z = z
+all-yes-both (p ∷ ps) qs y z = (y .0, all-yes-both ps qs (y .1) z)
+
 pub ask-zero : (qs : List Question) → AllYes qs → ask qs ≡ 0
 ask-zero [] y = sym ask-end
 ask-zero (q ∷ qs) y = sym (ask-yes (q .yes) 0 (q .number) qs (y .0) (sym (ask-zero qs (y .1))))
@@ -122,27 +130,32 @@ shape-is w h l y =
       area = area-bound (p .1) (q .1);
     }
 
--- ---- the scan: the largest so far, and what is left from place i on
+-- ---- the scan: `most` is the largest of the first k samples
 leb-max : (a b m : ℕ) → leb (max a b) m ≡ (leb a m && leb b m)
 leb-max a b m =
     same-test (leb (max a b) m) (leb a m && leb b m)
     (λ t. let l : max a b ≤ m = leb→le (max a b) m t in both (leb a m) (leb b m) (le→leb a m (omega arith)) (le→leb b m (omega arith)))
     (λ t. let p : a ≤ m = leb→le a m (and-left (leb a m) (leb b m) t) in let q : b ≤ m = leb→le b m (and-right (leb a m) (leb b m) t) in le→leb (max a b) m (omega arith))
 
-pub scan-more : (m most : ℕ) (l : List ℕ) (i : ℕ) → i < length l → (leb (max most (getD l i 0)) m && all-at-most m (drop (i + 1) l)) ≡ (leb most m && all-at-most m (drop i l))
+-- with one more at the end
+all-at-most-snoc : (m : ℕ) (l : List ℕ) (x : ℕ) → all-at-most m (l ++ (x ∷ [])) ≡ (all-at-most m l && leb x m)
 unfolding all-at-most
-scan-more m most l i h =
-    ap (λ (b : Bool). b && all-at-most m (drop (i + 1) l)) (leb-max most (getD l i 0) m)
-    ∙ and-assoc (leb most m) (leb (getD l i 0) m) (all-at-most m (drop (i + 1) l))
-    ∙ ap (λ (b : Bool). leb most m && b) (sym (rw (drop-cons l i 0 h, add-one) refl))
-
-pub scan-end : (m most : ℕ) (l : List ℕ) (i : ℕ) → length l ≤ i → (leb most m && all-at-most m (drop i l)) ≡ leb most m
-unfolding all-at-most
-scan-end m most l i h = rw (drop-of-length-le l {i = i} h) (and-true (leb most m))
+all-at-most-snoc m [] x = and-true (leb x m)
   where
     and-true : (b : Bool) → (b && true) ≡ b
     and-true true = refl
     and-true false = refl
+all-at-most-snoc m (y ∷ ys) x = ap (λ (b : Bool). leb y m && b) (all-at-most-snoc m ys x) ∙ sym (and-assoc (leb y m) (all-at-most m ys) (leb x m))
+
+pub scan-none : (m : ℕ) (f : ℕ → ℕ) → leb 0 m ≡ all-at-most m (tabulate 0 f)
+unfolding all-at-most tabulate
+scan-none m f = le-leb 0 m (omega arith)
+
+pub scan-more : (m most k : ℕ) (f : ℕ → ℕ) {x y : ℕ} → leb most m ≡ all-at-most m (tabulate k f) → x ≡ f k → y ≡ max most x → leb y m ≡ all-at-most m (tabulate (k + 1) f)
+unfolding tabulate
+scan-more m most k f {x} {y} e p q =
+    ap (λ (n : ℕ). leb n m) q ∙ leb-max most x m ∙ (λ j. e j && leb (p j) m)
+    ∙ sym (all-at-most-snoc m (tabulate k f) (f k)) ∙ ap (λ (n : ℕ). all-at-most m (tabulate n f)) (sym (add-one k))
 
 -- ---- question 9's test, place by place
 pub all-at-most-at : (m : ℕ) (l : List ℕ) → T (all-at-most m l) → (k : ℕ) → k < length l → getD l k 0 ≤ m

@@ -25,6 +25,10 @@ all-at-most top [] = true
 all-at-most top (x ∷ xs) = leb x top && all-at-most top xs
 
 -- ---- the questions that calls share
+-- the ceiling of a sample and of the threshold
+abbrev pub ceiling : ℕ
+ceiling = 4095
+
 -- 1 width and 2 height in range, from `least` on
 abbrev pub size-questions : ℕ → ℕ → ℕ → List Question
 size-questions least width height = question 1 (between least 2048 width) ∷ question 2 (between least 2048 height) ∷ []

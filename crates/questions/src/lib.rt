@@ -49,7 +49,7 @@ pub fn settings(top: u16, rounds: u8, threshold: u16) -> u32
     0
 }
 
-fn larger(a: u16, b: u16) -> u16
+pub fn larger(a: u16, b: u16) -> u16
     ensures { λ r. ⌜ r ≡ max a b ⌝ }
 {
     if a < b { b } else { a }

@@ -1,0 +1,153 @@
+-- What the reader's questions say of a store, and what its calls show at their returns. Assumes nothing.
+use Prim.Native.Nat.{ℕ, _+_, _*_, _-_, _≤_, _<_}
+use mathlib.Core.Path.{_≡_, refl, sym, ap, _∙_, subst}
+use mathlib.Core.Bool.{Bool, true}
+use mathlib.Core.List.{List, [], _∷_, _++_}
+use native.Mathlib.Nat.{add-zero}
+use native.Mathlib.Omega.{arith}
+use lib.Dec.{leb, eqb}
+use lib.ListN.{length, getD, take, drop, length-drop}
+use lib.Seq.{length-take-le}
+use borrow.Author.Tests.{le-leb, leb-true, eqb-true}
+use Rattle.questions.specs.Questions.{Question, question, ask, all-at-most, ceiling, shape-questions, settings-questions, samples-question}
+use Rattle.questions.proofs.Asking.{AllYes, all-yes, all-yes-split, Shape, shape-is, ask-yes, ask-zero, ask-first, ask-later}
+use Rattle.questions.proofs.Answering.{answer-no, answer-yes, left-no, left-yes}
+use Rattle.little_endian.specs.Bytes.{number-at}
+use Rattle.packet.specs.Packet.{distance, trailer-place, fields-of, distance-in, first-place, sample-part, samples-of}
+use Rattle.packet.specs.Calls.{fields-questions, distance-questions, store-questions, read-questions, mosaic-questions, number-of-read, ReadResult, part-read, MosaicResult}
+use Rattle.packet.specs.declared.Fields.{Fields}
+use Rattle.packet.specs.declared.ReadPacket.the-variants.{Sound, Refused}
+
+-- ---- what a yes says
+-- of 1, 2, 3, 4 and 5
+pub record Allowed (f : Fields) : Type 0 where
+  pub shape : Shape (f .width) (f .height) (f .layout)
+  pub rounds : f .rounds ≤ 64
+  pub threshold : f .threshold ≤ ceiling
+
+pub allowed : (f : Fields) → AllYes (fields-questions f) → Allowed f
+allowed f y =
+    let p = all-yes-split (shape-questions (f .width) (f .height) (f .layout)) (settings-questions ceiling (f .rounds) (f .threshold)) y in
+    record {
+      shape = shape-is (f .width) (f .height) (f .layout) (p .0);
+      rounds = leb-true (f .rounds) 64 (p .1 .0);
+      threshold = leb-true (f .threshold) ceiling (p .1 .1 .0);
+    }
+
+-- of 11, 1, 2, 3, 4, 5, 12 and 13: the store has a packet's length from its first sample on
+pub record Located (s : List ℕ) : Type 0 where
+  pub answers : AllYes (store-questions s)
+  pub asked : ask (store-questions s) ≡ 0
+  pub long : 12 ≤ length s
+  pub fields : Allowed (fields-of s)
+  pub back : distance-in s ≡ distance (fields-of s)
+  pub within : distance-in s ≤ length s
+
+located-by : (s : List ℕ) → AllYes (store-questions s) → Located s
+located-by s y =
+    let f = fields-of s in
+    let p = all-yes-split (fields-questions f) (distance-questions (distance-in s) f (length s)) (y .1) in
+    record {
+      answers = y;
+      asked = ask-zero (store-questions s) y;
+      long = leb-true 12 (length s) (y .0);
+      fields = allowed f (p .0);
+      back = eqb-true (distance-in s) (distance f) (p .1 .0);
+      within = leb-true (distance-in s) (length s) (p .1 .1 .0);
+    }
+
+pub located : (s : List ℕ) (n : ℕ) → n ≡ ask (store-questions s) → n ≡ 0 → Located s
+located s n e z = located-by s (all-yes (store-questions s) tt n e z)
+
+-- a sound packet: its samples are at most the ceiling too
+pub record SoundPacket (s : List ℕ) : Type 0 where
+  pub at : Located s
+  pub small : all-at-most ceiling (samples-of s) ≡ true
+
+pub sound-by : (s : List ℕ) → AllYes (read-questions s) → SoundPacket s
+sound-by s y =
+    let p = all-yes-split (store-questions s) (samples-question ceiling (samples-of s) ∷ []) y in
+    record { at = located-by s (p .0); small = p .1 .0 }
+
+pub sound : (s : List ℕ) (n : ℕ) → n ≡ ask (read-questions s) → n ≡ 0 → SoundPacket s
+sound s n e z = sound-by s (all-yes (read-questions s) tt n e z)
+
+pub record FillingPacket (s : List ℕ) (room : ℕ) : Type 0 where
+  pub at : Located s
+  pub fit : room ≡ fields-of s .width * fields-of s .height
+  pub small : all-at-most ceiling (samples-of s) ≡ true
+
+pub filling : (s : List ℕ) (room n : ℕ) → n ≡ ask (mosaic-questions s room) → n ≡ 0 → FillingPacket s room
+filling s room n e z =
+    let p = all-yes-split (store-questions s) (question 7 (eqb room (fields-of s .width * fields-of s .height)) ∷ samples-question ceiling (samples-of s) ∷ []) (all-yes (mosaic-questions s room) tt n e z) in
+    record { at = located-by s (p .0); fit = eqb-true room _ (p .1 .0); small = p .1 .1 .0 }
+
+-- ---- the trailer and the part, as the code reads them
+pub fields-are : (s : List ℕ) (w h t : ℕ) → w ≡ number-at 2 s (trailer-place s) → h ≡ number-at 2 s (trailer-place s + 2) → t ≡ number-at 2 s (trailer-place s + 6)
+    → record { width = w; height = h; layout = getD s (trailer-place s + 4) 0; rounds = getD s (trailer-place s + 5) 0; threshold = t } ≡ fields-of s
+unfolding fields-of number-at
+fields-are s w h t p q r =
+    λ j. record { width = p j; height = q j; layout = sym (add-zero (getD s (trailer-place s + 4) 0)) j; rounds = sym (add-zero (getD s (trailer-place s + 5) 0)) j; threshold = r j }
+
+pub part-is : (s : List ℕ) (d : ℕ) → d ≡ distance-in s → take (trailer-place s - (length s - d)) (drop (length s - d) s) ≡ sample-part s
+unfolding sample-part
+part-is s d e = ap (λ (k : ℕ). take (trailer-place s - (length s - k)) (drop (length s - k) s)) e
+
+pub length-part : (s : List ℕ) → Located s → length (sample-part s) ≡ 2 * (fields-of s .width * fields-of s .height)
+unfolding sample-part
+length-part s k =
+    length-take-le (trailer-place s - first-place s) (drop (first-place s) s) (omega (arith, length-drop (first-place s) s, k .within, k .long, k .back))
+    ∙ omega (arith, k .within, k .long, k .back)
+
+-- ---- the questions, where f is the trailer's fields
+module _ (s : List ℕ) (f : Fields) (e : f ≡ fields-of s) (n : ℕ) (p : n ≡ ask (fields-questions f)) (h : 12 ≤ length s) where
+  -- a no among 1 to 5
+  pub store-first : (n ≡ 0 → ⊥) → n ≡ ask (store-questions s)
+  store-first z =
+      ask-yes (leb 12 (length s)) n 11 _ (le-leb 12 (length s) h)
+      (ask-first (fields-questions (fields-of s)) _ n (p ∙ ap (λ (g : Fields). ask (fields-questions g)) e) z)
+
+  -- 12 and 13, of the distance that was read
+  pub store-rest : n ≡ 0 → (m d : ℕ) → d ≡ distance-in s → m ≡ ask (distance-questions d f (length s)) → m ≡ ask (store-questions s)
+  store-rest z m d q r =
+      ask-yes (leb 12 (length s)) m 11 _ (le-leb 12 (length s) h)
+      (ask-later (fields-questions (fields-of s)) _ m (all-yes (fields-questions (fields-of s)) tt n (p ∙ ap (λ (g : Fields). ask (fields-questions g)) e) z)
+      (r ∙ λ j. ask (distance-questions (q j) (e j) (length s))))
+
+-- 9, of what the scan answered
+pub read-rest : (s : List ℕ) (n : ℕ) → n ≡ ask (store-questions s) → n ≡ 0 → (b : Bool) → b ≡ all-at-most ceiling (samples-of s) → (m : ℕ) → m ≡ ask (question 9 b ∷ []) → m ≡ ask (read-questions s)
+read-rest s n e z b p m r =
+    ask-later (store-questions s) _ m (located s n e z .answers) (r ∙ ap (λ (x : Bool). ask (question 9 x ∷ [])) p)
+
+-- 7 and 9, where f is the trailer's fields
+pub mosaic-rest : (s : List ℕ) (room n : ℕ) → n ≡ ask (store-questions s) → n ≡ 0 → (f : Fields) → f ≡ fields-of s → (b : Bool) → b ≡ all-at-most ceiling (samples-of s)
+    → (m : ℕ) → m ≡ ask (question 7 (eqb room (f .width * f .height)) ∷ question 9 b ∷ []) → m ≡ ask (mosaic-questions s room)
+mosaic-rest s room n e z f q b p m r =
+    ask-later (store-questions s) _ m (located s n e z .answers) (r ∙ λ j. ask (question 7 (eqb room (q j .width * q j .height)) ∷ question 9 (p j) ∷ []))
+
+-- ---- the calls
+module _ (s : List ℕ) (n : ℕ) (e : n ≡ ask (read-questions s)) where
+  pub read-no : (n ≡ 0 → ⊥) → ReadResult s (Refused n)
+  read-no z = answer-no number-of-read (read-questions s) _ (Refused n) e z
+
+  pub read-yes : n ≡ 0 → (f : Fields) → f ≡ fields-of s → ReadResult s (Sound f)
+  read-yes z f p = answer-yes number-of-read (read-questions s) _ (Sound f) n e z refl (ap (λ (g : Fields). Sound g) p)
+
+  pub part-no : (n ≡ 0 → ⊥) → [] ≡ part-read s
+  part-no z = left-no (read-questions s) (sample-part s) [] n e z
+
+  pub part-yes : n ≡ 0 → (p : List ℕ) → p ≡ sample-part s → p ≡ part-read s
+  part-yes z p q = q ∙ left-yes (read-questions s) (sample-part s) [] n e z
+
+module _ (s before : List ℕ) (n : ℕ) (e : n ≡ ask (mosaic-questions s (length before))) where
+  pub mosaic-no : (n ≡ 0 → ⊥) → MosaicResult s before (Refused n) before
+  mosaic-no z = record {
+    answer = answer-no number-of-read (mosaic-questions s (length before)) _ (Refused n) e z;
+    buffer = left-no (mosaic-questions s (length before)) (samples-of s) before n e z;
+  }
+
+  pub mosaic-yes : n ≡ 0 → (f : Fields) → f ≡ fields-of s → {after : List ℕ} → after ≡ samples-of s → MosaicResult s before (Sound f) after
+  mosaic-yes z f p q = record {
+    answer = answer-yes number-of-read (mosaic-questions s (length before)) _ (Sound f) n e z refl (ap (λ (g : Fields). Sound g) p);
+    buffer = q ∙ left-yes (mosaic-questions s (length before)) (samples-of s) before n e z;
+  }

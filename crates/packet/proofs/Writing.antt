@@ -1,0 +1,106 @@
+-- Runs of stores, and what the writer shows at its returns. Assumes nothing.
+use Prim.Native.Nat.{ℕ, suc, _+_, _*_, _≤_}
+use mathlib.Core.Path.{_≡_, refl, sym, ap, _∙_}
+use mathlib.Core.Bool.{Bool, true}
+use mathlib.Core.List.{List, [], _∷_, _++_}
+use native.Mathlib.Nat.{add-zero}
+use native.Mathlib.Omega.{arith}
+use lib.Dec.{leb, eqb}
+use lib.ListN.{length, drop, set, length-append}
+use lib.Seq.{sets, sets-eq}
+use borrow.Author.Tests.{leb-true, eqb-true}
+use Rattle.questions.specs.Questions.{question, ask, all-at-most, ceiling, samples-question}
+use Rattle.questions.proofs.Asking.{AllYes, all-yes, all-yes-split, ask-later}
+use Rattle.questions.proofs.Answering.{answer-no, answer-yes, left-no, left-yes}
+use Rattle.little_endian.specs.Bytes.{bytes-of, sample-bytes}
+use Rattle.little_endian.proofs.Samples.{length-sample-bytes}
+use Rattle.packet.specs.Packet.{distance, trailer, packet}
+use Rattle.packet.specs.Calls.{fields-questions, write-questions, number-of-written, WriteResult}
+use Rattle.packet.specs.declared.Fields.{Fields}
+use Rattle.packet.specs.declared.WrittenPacket.the-variants.{Bytes, Refused}
+use Rattle.packet.proofs.Stores.{Allowed, allowed}
+
+-- ---- one run of stores after another
+sets-append : (l : List ℕ) (at : ℕ) (p q : List ℕ) → sets (sets l at p) (at + length p) q ≡ sets l at (p ++ q)
+sets-append l at [] q = ap (λ (k : ℕ). sets l k q) (add-zero at)
+sets-append l at (x ∷ p) q = ap (λ (k : ℕ). sets (sets (set l at x) (suc at) p) k q) next ∙ sets-append (set l at x) (suc at) p q
+  where
+    next : at + suc (length p) ≡ suc at + length p
+    next = omega arith
+
+sets-then : (l : List ℕ) (at : ℕ) (p q : List ℕ) {x y : List ℕ} (k : ℕ) → k ≡ at + length p → x ≡ sets l at p → y ≡ sets x k q → y ≡ sets l at (p ++ q)
+sets-then l at p q k e f g = g ∙ (λ j. sets (f j) (e j) q) ∙ sets-append l at p q
+
+-- the trailer's six numbers, one after another
+pub trailer-stored : (l : List ℕ) (at : ℕ) (f : Fields) (d : ℕ) → d ≡ distance f → {x₁ x₂ x₃ x₄ x₅ x₆ : List ℕ}
+    → x₁ ≡ sets l at (bytes-of 2 (f .width)) → x₂ ≡ sets x₁ (at + 2) (bytes-of 2 (f .height)) → x₃ ≡ sets x₂ (at + 4) (bytes-of 1 (f .layout))
+    → x₄ ≡ sets x₃ (at + 5) (bytes-of 1 (f .rounds)) → x₅ ≡ sets x₄ (at + 6) (bytes-of 2 (f .threshold)) → x₆ ≡ sets x₅ (at + 8) (bytes-of 4 d)
+    → x₆ ≡ sets l at (trailer f)
+unfolding trailer bytes-of
+trailer-stored l at f d e {x₁} {x₂} {x₃} {x₄} {x₅} {x₆} e₁ e₂ e₃ e₄ e₅ e₆ =
+    let W = bytes-of 2 (f .width) in
+    let H = bytes-of 2 (f .height) in
+    let L = bytes-of 1 (f .layout) in
+    let R = bytes-of 1 (f .rounds) in
+    let T = bytes-of 2 (f .threshold) in
+    sets-then l at (W ++ (H ++ (L ++ (R ++ T)))) (bytes-of 4 (distance f)) (at + 8) refl
+    (sets-then l at (W ++ (H ++ (L ++ R))) T (at + 6) refl
+    (sets-then l at (W ++ (H ++ L)) R (at + 5) refl
+    (sets-then l at (W ++ H) L (at + 4) refl
+    (sets-then l at W H (at + 2) refl e₁ e₂) e₃) e₄) e₅)
+    (e₆ ∙ ap (λ (n : ℕ). sets x₅ (at + 8) (bytes-of 4 n)) e)
+
+-- ---- the questions
+-- what a yes says of 1, 2, 3, 4, 5, 6, 9 and 14
+pub record Writable (f : Fields) (s : List ℕ) (room : ℕ) : Type 0 where
+  pub fields-yes : AllYes (fields-questions f)
+  pub fields : Allowed f
+  pub given : length s ≡ f .width * f .height
+  pub small : all-at-most ceiling s ≡ true
+  pub fit : distance f ≤ room
+
+pub writable : (f : Fields) (s : List ℕ) (room n : ℕ) → n ≡ ask (write-questions f s room) → n ≡ 0 → Writable f s room
+writable f s room n e z =
+    let y = all-yes-split (fields-questions f) (question 6 (eqb (length s) (f .width * f .height)) ∷ samples-question ceiling s ∷ question 14 (leb (distance f) room) ∷ []) (all-yes (write-questions f s room) tt n e z) in
+    record {
+      fields-yes = y .0;
+      fields = allowed f (y .0);
+      given = eqb-true (length s) (f .width * f .height) (y .1 .0);
+      small = y .1 .1 .0;
+      fit = leb-true (distance f) room (y .1 .1 .1 .0);
+    }
+
+-- 6, 9 and 14, of what the scan answered
+pub write-rest : (f : Fields) (s : List ℕ) (room n : ℕ) → n ≡ ask (fields-questions f) → n ≡ 0 → (b : Bool) → b ≡ all-at-most ceiling s
+    → (m : ℕ) → m ≡ ask (question 6 (eqb (length s) (f .width * f .height)) ∷ question 9 b ∷ question 14 (leb (distance f) room) ∷ []) → m ≡ ask (write-questions f s room)
+write-rest f s room n e z b p m r =
+    ask-later (fields-questions f) _ m (all-yes (fields-questions f) tt n e z)
+    (r ∙ ap (λ (x : Bool). ask (question 6 (eqb (length s) (f .width * f .height)) ∷ question 9 x ∷ question 14 (leb (distance f) room) ∷ [])) p)
+
+-- ---- the call
+pub length-packet : (f : Fields) (s : List ℕ) → length s ≡ f .width * f .height → length (packet f s) ≡ distance f
+unfolding packet trailer bytes-of
+length-packet f s e = length-append (sample-bytes s) (trailer f) ∙ omega (arith, length-sample-bytes s)
+
+module _ (f : Fields) (s before : List ℕ) (n : ℕ) (e : n ≡ ask (write-questions f s (length before))) where
+  pub write-no : (n ≡ 0 → ⊥) → WriteResult f s before (Refused n) before
+  write-no z = record {
+    answer = answer-no number-of-written (write-questions f s (length before)) _ (Refused n) e z;
+    buffer = left-no (write-questions f s (length before)) (packet f s ++ drop (distance f) before) before n e z;
+  }
+
+  -- the samples' bytes first, and the trailer after them
+  pub write-yes : n ≡ 0 → (m : ℕ) → m ≡ 2 * length s → {x after : List ℕ} → x ≡ sets before 0 (sample-bytes s) → after ≡ sets x m (trailer f) → WriteResult f s before (Bytes (m + 12)) after
+  unfolding packet
+  write-yes z m i p q =
+      let k = writable f s (length before) n e z in
+      let long : length (packet f s) ≡ distance f = length-packet f s (k .given) in
+      let count : m + 12 ≡ distance f = omega (arith, k .given) in
+      let end : 0 + length (packet f s) ≡ distance f = omega (arith, long) in
+      record {
+        answer = answer-yes number-of-written (write-questions f s (length before)) _ (Bytes (m + 12)) n e z refl (ap (λ (j : ℕ). Bytes j) count);
+        buffer = sets-then before 0 (sample-bytes s) (trailer f) m (omega (arith, length-sample-bytes s)) p q
+            ∙ sets-eq (packet f s) before 0 (omega (arith, k .fit))
+            ∙ ap (λ (j : ℕ). packet f s ++ drop j before) end
+            ∙ left-yes (write-questions f s (length before)) (packet f s ++ drop (distance f) before) before n e z;
+      }

@@ -1,0 +1,66 @@
+-- `packet::read_mosaic` meets its contract.
+-- Assumes nothing.
+use mathlib.Core.Path.{_≡_, ap, sym, _∙_}
+use mathlib.Core.List.{List}
+use Prim.Native.Nat.{ℕ, _*_}
+use native.Mathlib.Omega.{arith}
+use lib.ListN.{length}
+use denote.Ref.{now}
+use Rattle.little_endian.specs.Bytes.{samples-in}
+use Rattle.packet.proofs.Stores.{FillingPacket, filling, length-part, mosaic-no, mosaic-yes}
+use borrow.Author.Needs.{needs}
+use Rattle.packet.proofs.read_mosaic.Statement.{statement}
+use Rattle.packet.proofs.read_mosaic.Tie as tie
+use Rattle.packet.proofs.read_mosaic.Reads as reads
+use Rattle.packet.proofs.read_mosaic.Lts as lts
+use Rattle.little_endian.proofs.read_samples.Reads as read-samples-reads
+use Rattle.packet.proofs.mosaic_refusal.Reads as mosaic-refusal-reads
+use Rattle.packet.proofs.sample_bytes.Reads as sample-bytes-reads
+use Rattle.packet.proofs.trailer_fields.Reads as trailer-fields-reads
+
+mosaic-refusal-requires : tie.Need-mosaic-refusal-requires
+mosaic-refusal-requires c κs = search needs
+
+returns : tie.Need-returns
+returns c =
+    let a = c .before .before .before .before .args in
+    mosaic-no (now (a .store)) (now (a .mosaic)) _ (c .before .mosaic-refusal .ensures) (c .if1 .taken)
+
+known : (c : tie.Else1) → let a = c .before .before .before .before .args in FillingPacket (now (a .store)) (length (now (a .mosaic)))
+known c =
+    let a = c .before .before .before .before .args in
+    filling (now (a .store)) (length (now (a .mosaic))) _ (c .before .mosaic-refusal .ensures) (c .if1 .left)
+
+sample-bytes-requires : tie.Need-sample-bytes-requires
+sample-bytes-requires c κs = known c .at .asked
+
+read-samples-requires : tie.Need-read-samples-requires
+read-samples-requires c κs =
+    let e = c .before .before in
+    let k = known e in
+    ap length (c .before .sample-bytes .ensures) ∙ length-part (now (e .before .before .before .before .args .store)) (k .at) ∙ ap (λ (n : ℕ). 2 * n) (sym (k .fit))
+
+trailer-fields-requires : tie.Need-trailer-fields-requires
+trailer-fields-requires c κs = known (c .before .before .before .before .before) .at .long
+
+same-length : tie.Need-same-length
+same-length c = search needs
+
+returns-2 : tie.Need-returns-2
+returns-2 c =
+    let e = c .before .before .before .before .before .before in
+    let a = e .before .before .before .before .args in
+    mosaic-yes (now (a .store)) (now (a .mosaic)) _ (e .before .mosaic-refusal .ensures) (e .if1 .left) _ (c .trailer-fields .ensures)
+    (c .before .before .before .read-samples .ensures ∙ ap samples-in (c .before .before .before .before .before .sample-bytes .ensures))
+
+pub read-mosaic-spec : {M : Type 1} → statement M
+read-mosaic-spec =
+    tie.close
+    (tie.spec
+    mosaic-refusal-requires
+    returns
+    sample-bytes-requires
+    read-samples-requires
+    trailer-fields-requires
+    same-length
+    returns-2)

@@ -1,0 +1,104 @@
+-- `packet::repeats_packet` meets its contract.
+-- Assumes nothing.
+use mathlib.Core.Path.{_≡_, sym, ap, _∙_}
+use mathlib.Core.Bool.{true, false}
+use Prim.Native.Nat.{ℕ, _*_}
+use lib.ListN.{length}
+use denote.Ref.{now}
+use Rattle.integers.proofs.Tests.{not-is}
+use Rattle.packet.specs.Packet.{repeats}
+use Rattle.packet.proofs.Stores.{SoundPacket, length-part}
+use Rattle.packet.proofs.Repeating.{SameFrame, sound-both, same-fields, other-frame, samples-decide, repeat-no, repeat-yes}
+use borrow.Author.Needs.{needs}
+use Rattle.packet.proofs.repeats_packet.Statement.{statement}
+use Rattle.packet.proofs.repeats_packet.Tie as tie
+use Rattle.packet.proofs.repeats_packet.Reads as reads
+use Rattle.packet.proofs.repeats_packet.Lts as lts
+use Rattle.little_endian.proofs.same_samples.Reads as same-samples-reads
+use Rattle.packet.proofs.repeat_refusal.Reads as repeat-refusal-reads
+use Rattle.packet.proofs.same_shape.Reads as same-shape-reads
+use Rattle.packet.proofs.sample_bytes.Reads as sample-bytes-reads
+use Rattle.packet.proofs.trailer_fields.Reads as trailer-fields-reads
+
+repeat-refusal-requires : tie.Need-repeat-refusal-requires
+repeat-refusal-requires c κs = search needs
+
+returns : tie.Need-returns
+returns c =
+    let a = c .before .before .before .before .args in
+    repeat-no (now (a .a)) (now (a .b)) _ (c .before .repeat-refusal .ensures) (c .if1 .taken)
+
+known : (c : tie.Else1) → let a = c .before .before .before .before .args in SoundPacket (now (a .a)) × SoundPacket (now (a .b))
+known c =
+    let a = c .before .before .before .before .args in
+    sound-both (now (a .a)) (now (a .b)) _ (c .before .repeat-refusal .ensures) (c .if1 .left)
+
+trailer-fields-requires : tie.Need-trailer-fields-requires
+trailer-fields-requires c κs = known c .0 .at .long
+
+trailer-fields-requires-2 : tie.Need-trailer-fields-requires-2
+trailer-fields-requires-2 c κs = known (c .before) .1 .at .long
+
+same-shape-requires : tie.Need-same-shape-requires
+same-shape-requires c κs = search needs
+
+returns-2 : tie.Need-returns-2
+returns-2 c =
+    let s = c .before in
+    let e = s .before .before .before in
+    let a = e .before .before .before .before .args in
+    repeat-yes (now (a .a)) (now (a .b)) _ (e .before .repeat-refusal .ensures) (e .if1 .left) false
+    (other-frame (now (a .a)) (now (a .b)) _ _ (s .before .before .trailer-fields .ensures) (s .before .trailer-fields2 .ensures) _ (s .same-shape .ensures) (not-is (s .same-shape .result) true (c .if2 .taken)))
+
+sample-bytes-requires : tie.Need-sample-bytes-requires
+sample-bytes-requires c κs = known (c .before .before .before .before) .0 .at .asked
+
+sample-bytes-requires-2 : tie.Need-sample-bytes-requires-2
+sample-bytes-requires-2 c κs = known (c .before .before .before .before .before) .1 .at .asked
+
+same-samples-requires : tie.Need-same-samples-requires
+same-samples-requires c κs =
+    let t = c .before .before in
+    let s = t .before in
+    let k = known (s .before .before .before) in
+    let a = s .before .before .before .before .before .before .before .args in
+    let f = same-fields (now (a .a)) (now (a .b)) _ _ (s .before .before .trailer-fields .ensures) (s .before .trailer-fields2 .ensures) _ (s .same-shape .ensures) (not-is (s .same-shape .result) false (t .if2 .left)) in
+    ap length (c .before .sample-bytes .ensures) ∙ length-part (now (a .a)) (k .0 .at)
+    ∙ (λ j. 2 * (f .width j * f .height j))
+    ∙ sym (ap length (c .sample-bytes2 .ensures) ∙ length-part (now (a .b)) (k .1 .at))
+
+-- whether the packets repeat, as the comparison answers it
+decided : (c : tie.After-same-samples) → let a = c .before .before .before .before .before .before .before .before .before .before .before .args in c .same-samples .result ≡ repeats (now (a .a)) (now (a .b))
+decided c =
+    let t = c .before .before .before in
+    let s = t .before in
+    let a = s .before .before .before .before .before .before .before .args in
+    samples-decide (now (a .a)) (now (a .b)) _ _ (s .before .before .trailer-fields .ensures) (s .before .trailer-fields2 .ensures) _ (s .same-shape .ensures) (not-is (s .same-shape .result) false (t .if2 .left)) _ _ (c .before .before .sample-bytes .ensures) (c .before .sample-bytes2 .ensures) _ (c .same-samples .ensures)
+
+returns-3 : tie.Need-returns-3
+returns-3 c =
+    let e = c .before .before .before .before .before .before .before .before in
+    let a = e .before .before .before .before .args in
+    repeat-yes (now (a .a)) (now (a .b)) _ (e .before .repeat-refusal .ensures) (e .if1 .left) true (sym (c .if3 .taken) ∙ decided (c .before))
+
+returns-4 : tie.Need-returns-4
+returns-4 c =
+    let e = c .before .before .before .before .before .before .before .before in
+    let a = e .before .before .before .before .args in
+    repeat-yes (now (a .a)) (now (a .b)) _ (e .before .repeat-refusal .ensures) (e .if1 .left) false (sym (c .if3 .left) ∙ decided (c .before))
+
+pub repeats-packet-spec : {M : Type 1} → statement M
+repeats-packet-spec =
+    tie.close
+    (tie.spec
+    repeat-refusal-requires
+    returns
+    trailer-fields-requires
+    trailer-fields-requires-2
+    same-shape-requires
+    returns-2
+    sample-bytes-requires
+    sample-bytes-requires-2
+    same-samples-requires
+    returns-3
+    returns-4)

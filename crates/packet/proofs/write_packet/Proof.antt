@@ -1,0 +1,71 @@
+-- `packet::write_packet` meets its contract.
+-- Assumes nothing.
+use mathlib.Core.Path.{_≡_, refl}
+use native.Mathlib.Omega.{arith}
+use lib.ListN.{length}
+use denote.Ref.{now}
+use Rattle.packet.proofs.Writing.{Writable, writable, write-no, write-yes}
+use borrow.Author.Needs.{needs}
+use Rattle.packet.proofs.write_packet.Statement.{statement}
+use Rattle.packet.proofs.write_packet.Tie as tie
+use Rattle.packet.proofs.write_packet.Reads as reads
+use Rattle.packet.proofs.write_packet.Lts as lts
+use Rattle.little_endian.proofs.write_samples.Reads as write-samples-reads
+use Rattle.packet.proofs.put_trailer.Reads as put-trailer-reads
+use Rattle.packet.proofs.write_refusal.Reads as write-refusal-reads
+
+write-refusal-requires : tie.Need-write-refusal-requires
+write-refusal-requires c κs = search needs
+
+returns : tie.Need-returns
+returns c =
+    let a = c .before .before .before .before .args in
+    write-no (a .f) (now (a .samples)) (now (a .out)) _ (c .before .write-refusal .ensures) (c .if1 .taken)
+
+known : (c : tie.Else1) → let a = c .before .before .before .before .args in Writable (a .f) (now (a .samples)) (length (now (a .out)))
+known c =
+    let a = c .before .before .before .before .args in
+    writable (a .f) (now (a .samples)) (length (now (a .out))) _ (c .before .write-refusal .ensures) (c .if1 .left)
+
+mul-at : tie.Need-mul-at
+mul-at c = search needs
+
+write-samples-requires : tie.Need-write-samples-requires
+write-samples-requires c κs = let k = known (c .before) in omega (arith, k .given, k .fit)
+
+add-put-trailer : tie.Need-add-put-trailer
+add-put-trailer c = search needs
+
+put-trailer-requires : tie.Need-put-trailer-requires
+put-trailer-requires c κs =
+    let w = c .before .before .before in
+    let k = known (w .before .before) in
+    (omega (arith, k .given, k .fit, w .write-samples .kept .1 .0), omega (arith, k .given))
+
+add-t6 : tie.Need-add-t6
+add-t6 c = search needs
+
+same-length : tie.Need-same-length
+same-length c = search needs
+
+returns-2 : tie.Need-returns-2
+returns-2 c =
+    let p = c .before .before in
+    let w = p .before .before .before .before in
+    let e = w .before .before in
+    let a = e .before .before .before .before .args in
+    write-yes (a .f) (now (a .samples)) (now (a .out)) _ (e .before .write-refusal .ensures) (e .if1 .left) _ refl (w .write-samples .ensures) (p .put-trailer .ensures)
+
+pub write-packet-spec : {M : Type 1} → statement M
+write-packet-spec =
+    tie.close
+    (tie.spec
+    write-refusal-requires
+    returns
+    mul-at
+    write-samples-requires
+    add-put-trailer
+    put-trailer-requires
+    add-t6
+    same-length
+    returns-2)

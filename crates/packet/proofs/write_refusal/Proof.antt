@@ -1,0 +1,86 @@
+-- `packet::write_refusal` meets its contract: the fields' questions, then 6, 9 and 14.
+-- Assumes nothing.
+use mathlib.Core.Path.{_≡_, refl}
+use mathlib.Core.Bool.{true, false}
+use native.Mathlib.Omega.{arith}
+use denote.Ref.{now}
+use Rattle.integers.proofs.Tests.{not-is}
+use Rattle.questions.proofs.Asking.{asking, ask-first, all-yes}
+use Rattle.packet.specs.Calls.{fields-questions}
+use Rattle.packet.proofs.Stores.{Allowed, allowed}
+use Rattle.packet.proofs.Writing.{write-rest}
+use borrow.Author.Needs.{needs}
+use Rattle.packet.proofs.write_refusal.Statement.{statement}
+use Rattle.packet.proofs.write_refusal.Tie as tie
+use Rattle.packet.proofs.write_refusal.Reads as reads
+use Rattle.packet.proofs.write_refusal.Lts as lts
+use Rattle.packet.proofs.fields_refusal.Reads as fields-refusal-reads
+use Rattle.questions.proofs.samples_within.Reads as samples-within-reads
+
+fields-refusal-requires : tie.Need-fields-refusal-requires
+fields-refusal-requires c κs = search needs
+
+returns : tie.Need-returns
+returns c = ask-first (fields-questions (c .before .before .before .args .f)) _ _ (c .before .fields-refusal .ensures) (c .if1 .taken)
+
+known : (c : tie.Else1) → Allowed (c .before .before .before .args .f)
+known c =
+    let f = c .before .before .before .args .f in
+    allowed f (all-yes (fields-questions f) tt _ (c .before .fields-refusal .ensures) (c .if1 .left))
+
+mul-count : tie.Need-mul-count
+mul-count c = let k = known (c .before) in record { fits = omega (arith, k .shape .area) }
+
+returns-2 : tie.Need-returns-2
+returns-2 c =
+    let e = c .before .before in
+    let a = e .before .before .before .args in
+    write-rest (a .f) (now (a .samples)) (a .room) _ (e .before .fields-refusal .ensures) (e .if1 .left) _ refl _ (search asking)
+
+samples-within-requires : tie.Need-samples-within-requires
+samples-within-requires c κs = search needs
+
+returns-3 : tie.Need-returns-3
+returns-3 c =
+    let s = c .before in
+    let e = s .before .before .before in
+    let a = e .before .before .before .args in
+    let above : s .samples-within .result ≡ false = not-is (s .samples-within .result) true (c .if3 .taken) in
+    write-rest (a .f) (now (a .samples)) (a .room) _ (e .before .fields-refusal .ensures) (e .if1 .left) _ (s .samples-within .ensures) _ (search asking)
+
+mul-if4 : tie.Need-mul-if4
+mul-if4 c = search needs
+
+add-if4 : tie.Need-add-if4
+add-if4 c = search needs
+
+returns-4 : tie.Need-returns-4
+returns-4 c =
+    let s = c .before .before in
+    let e = s .before .before .before in
+    let a = e .before .before .before .args in
+    let within : s .samples-within .result ≡ true = not-is (s .samples-within .result) false (c .before .if3 .left) in
+    write-rest (a .f) (now (a .samples)) (a .room) _ (e .before .fields-refusal .ensures) (e .if1 .left) _ (s .samples-within .ensures) _ (search asking)
+
+returns-5 : tie.Need-returns-5
+returns-5 c =
+    let s = c .before .before in
+    let e = s .before .before .before in
+    let a = e .before .before .before .args in
+    let within : s .samples-within .result ≡ true = not-is (s .samples-within .result) false (c .before .if3 .left) in
+    write-rest (a .f) (now (a .samples)) (a .room) _ (e .before .fields-refusal .ensures) (e .if1 .left) _ (s .samples-within .ensures) _ (search asking)
+
+pub write-refusal-spec : {M : Type 1} → statement M
+write-refusal-spec =
+    tie.close
+    (tie.spec
+    fields-refusal-requires
+    returns
+    mul-count
+    returns-2
+    samples-within-requires
+    returns-3
+    mul-if4
+    add-if4
+    returns-4
+    returns-5)

@@ -1,0 +1,86 @@
+-- The calls on packets: what each asks, and what its answer and its buffer are then. Assumes nothing.
+use Prim.Native.Nat.{ℕ, _*_}
+use mathlib.Core.Path.{_≡_}
+use mathlib.Core.Bool.{Bool, cond}
+use mathlib.Core.List.{List, [], _∷_, _++_}
+use lib.Dec.{leb, eqb}
+use lib.ListN.{length, drop}
+use Rattle.questions.specs.Questions.{Question, question, ceiling, shape-questions, settings-questions, samples-question}
+use Rattle.questions.specs.Answers.{Answered, if-accepted}
+use Rattle.packet.specs.Packet.{distance, packet, fields-of, distance-in, sample-part, samples-of, repeats}
+use Rattle.packet.specs.declared.Fields.{Fields}
+use Rattle.packet.specs.declared.ReadPacket.{ReadPacket}
+use Rattle.packet.specs.declared.ReadPacket.the-variants as read
+use Rattle.packet.specs.declared.WrittenPacket.{WrittenPacket}
+use Rattle.packet.specs.declared.WrittenPacket.the-variants as written
+use Rattle.packet.specs.declared.Repeat.{Repeat}
+use Rattle.packet.specs.declared.Repeat.the-variants as repeat
+
+-- ---- the questions, in document 01's order
+-- 1, 2, 3, 4, 5
+abbrev pub fields-questions : Fields → List Question
+fields-questions f = shape-questions (f .width) (f .height) (f .layout) ++ settings-questions ceiling (f .rounds) (f .threshold)
+
+-- 12 distance equal to 2·w·h + 12, 13 distance within the store
+abbrev pub distance-questions : ℕ → Fields → ℕ → List Question
+distance-questions back f length = question 12 (eqb back (distance f)) ∷ question 13 (leb back length) ∷ []
+
+-- 11, 1, 2, 3, 4, 5, 12, 13: all that is asked of a store before a sample is looked at
+abbrev pub store-questions : List ℕ → List Question
+store-questions store =
+    question 11 (leb 12 (length store)) ∷ fields-questions (fields-of store) ++ distance-questions (distance-in store) (fields-of store) (length store)
+
+-- the reader: these, and 9
+abbrev pub read-questions : List ℕ → List Question
+read-questions store = store-questions store ++ (samples-question ceiling (samples-of store) ∷ [])
+
+-- reading into a mosaic of `room`: these, 7 and 9
+abbrev pub mosaic-questions : List ℕ → ℕ → List Question
+mosaic-questions store room =
+    store-questions store ++ (question 7 (eqb room (fields-of store .width * fields-of store .height)) ∷ samples-question ceiling (samples-of store) ∷ [])
+
+-- the writer, into a buffer of `room`: 1, 2, 3, 4, 5, 6, 9, 14
+abbrev pub write-questions : Fields → List ℕ → ℕ → List Question
+write-questions f samples room =
+    fields-questions f ++ (question 6 (eqb (length samples) (f .width * f .height)) ∷ samples-question ceiling samples ∷ question 14 (leb (distance f) room) ∷ [])
+
+-- the repeat call: all of the first store, then of the second
+abbrev pub repeat-questions : List ℕ → List ℕ → List Question
+repeat-questions a b = read-questions a ++ read-questions b
+
+-- ---- document 01's number of each answer
+abbrev pub number-of-read : ReadPacket → ℕ
+number-of-read (read.Sound fields) = 0
+number-of-read (read.Refused number) = number
+
+abbrev pub number-of-written : WrittenPacket → ℕ
+number-of-written (written.Bytes n) = 0
+number-of-written (written.Refused number) = number
+
+abbrev pub number-of-repeat : Repeat → ℕ
+number-of-repeat repeat.Yes = 0
+number-of-repeat repeat.No = 0
+number-of-repeat (repeat.Refused number) = number
+
+-- ---- what is promised
+-- the reader's fields
+abbrev pub ReadResult : List ℕ → ReadPacket → Type 0
+ReadResult store r = Answered number-of-read (read-questions store) (read.Sound (fields-of store)) r
+
+-- the reader's part of the store: the empty part where it is refused
+abbrev pub part-read : List ℕ → List ℕ
+part-read store = if-accepted (read-questions store) (sample-part store) []
+
+-- reading into a mosaic that held `before`: the answer r, and what the mosaic holds `after`
+pub record MosaicResult (store before : List ℕ) (r : ReadPacket) (after : List ℕ) : Type 0 where
+  pub answer : Answered number-of-read (mosaic-questions store (length before)) (read.Sound (fields-of store)) r
+  pub buffer : after ≡ if-accepted (mosaic-questions store (length before)) (samples-of store) before
+
+-- the writer, given a buffer that held `before`: its answer r, and what the buffer holds `after`
+pub record WriteResult (f : Fields) (samples before : List ℕ) (r : WrittenPacket) (after : List ℕ) : Type 0 where
+  pub answer : Answered number-of-written (write-questions f samples (length before)) (written.Bytes (distance f)) r
+  pub buffer : after ≡ if-accepted (write-questions f samples (length before)) (packet f samples ++ drop (distance f) before) before
+
+-- the repeat call
+abbrev pub RepeatResult : List ℕ → List ℕ → Repeat → Type 0
+RepeatResult a b r = Answered number-of-repeat (repeat-questions a b) (cond (repeats a b) repeat.Yes repeat.No) r

@@ -1,0 +1,254 @@
+// Document 01's packet: the reader, the writer and the repeat call.
+ghost use mathlib.Core.Path.{_≡_};
+ghost use Prim.Native.Nat.{_+_, _*_, _≤_, _<_};
+ghost use lib.ListN.{length};
+ghost use lib.Seq.{sets};
+ghost use Rattle.questions.specs.Questions.{ask};
+ghost use Rattle.packet.specs.Packet.{distance, trailer, fields-of, sample-part, same-frame};
+ghost use Rattle.packet.specs.Calls.{fields-questions, store-questions, read-questions, mosaic-questions, write-questions, repeat-questions, ReadResult, part-read, MosaicResult, WriteResult, RepeatResult};
+
+// What a packet's trailer says of its frame.
+pub struct Fields {
+    pub width: usize,
+    pub height: usize,
+    pub layout: u8,
+    pub rounds: u8,
+    pub threshold: u16,
+}
+
+pub enum ReadPacket {
+    Sound(Fields),
+    Refused(u32),
+}
+
+// How many bytes were written.
+pub enum WrittenPacket {
+    Bytes(usize),
+    Refused(u32),
+}
+
+pub enum Repeat {
+    Yes,
+    No,
+    Refused(u32),
+}
+
+// ---- the reader
+
+fn trailer_fields(store: &[u8]) -> Fields
+    requires { ⌜ 12 ≤ length (now store) ⌝ }
+    ensures { λ r. ⌜ r ≡ fields-of (now (store .entry)) ⌝ }
+{
+    let at = store.len() - 12;
+    Fields {
+        width: little_endian::two(store, at) as usize,
+        height: little_endian::two(store, at + 2) as usize,
+        layout: store[at + 4],
+        rounds: store[at + 5],
+        threshold: little_endian::two(store, at + 6),
+    }
+}
+
+// Questions 1, 2, 3, 4 and 5.
+fn fields_refusal(f: Fields) -> u32
+    ensures { λ r. ⌜ r ≡ ask (fields-questions f) ⌝ }
+{
+    let number = questions::shape(f.width, f.height, f.layout);
+    if number != 0 {
+        return number;
+    }
+    questions::settings(4095, f.rounds, f.threshold)
+}
+
+// Questions 11, 1, 2, 3, 4, 5, 12 and 13. No sample is looked at.
+fn store_refusal(store: &[u8]) -> u32
+    ensures { λ r. ⌜ r ≡ ask (store-questions (now (store .entry))) ⌝ }
+{
+    if store.len() < 12 {
+        return 11;
+    }
+    let f = trailer_fields(store);
+    let number = fields_refusal(f);
+    if number != 0 {
+        return number;
+    }
+    let at = store.len() - 12;
+    let back = little_endian::four(store, at + 8);
+    if back != 2 * (f.width * f.height) + 12 {
+        return 12;
+    }
+    if store.len() < back {
+        return 13;
+    }
+    0
+}
+
+// The part that holds the samples, by the distance back.
+fn sample_bytes(store: &[u8]) -> &[u8]
+    requires { ⌜ ask (store-questions (now store)) ≡ 0 ⌝ }
+    ensures { λ r. ⌜ now r ≡ sample-part (now (store .entry)) ⌝ }
+{
+    let at = store.len() - 12;
+    let first = store.len() - little_endian::four(store, at + 8);
+    &store[first..at]
+}
+
+// The reader's refusal number, 0 for a sound packet: questions 11, 1, 2, 3, 4, 5, 12, 13 and 9.
+pub fn packet_refusal(store: &[u8]) -> u32
+    ensures { λ r. ⌜ r ≡ ask (read-questions (now (store .entry))) ⌝ }
+{
+    let number = store_refusal(store);
+    if number != 0 {
+        return number;
+    }
+    if little_endian::samples_within(4095, sample_bytes(store)) {
+        0
+    } else {
+        9
+    }
+}
+
+// The reader: the fields of the packet whose end is the store's end.
+pub fn read_packet(store: &[u8]) -> ReadPacket
+    ensures { λ r. ⌜ ReadResult (now (store .entry)) r ⌝ }
+{
+    let number = packet_refusal(store);
+    if number != 0 {
+        return ReadPacket::Refused(number);
+    }
+    ReadPacket::Sound(trailer_fields(store))
+}
+
+// The reader: the part of the store that holds the samples, two bytes each; the empty part where the packet is refused.
+pub fn packet_samples(store: &[u8]) -> &[u8]
+    ensures { λ r. ⌜ now r ≡ part-read (now (store .entry)) ⌝ }
+{
+    if packet_refusal(store) != 0 {
+        return &store[0..0];
+    }
+    sample_bytes(store)
+}
+
+// Questions 11, 1, 2, 3, 4, 5, 12, 13, 7 and 9.
+fn mosaic_refusal(store: &[u8], room: usize) -> u32
+    ensures { λ r. ⌜ r ≡ ask (mosaic-questions (now (store .entry)) room) ⌝ }
+{
+    let number = store_refusal(store);
+    if number != 0 {
+        return number;
+    }
+    let f = trailer_fields(store);
+    if room != f.width * f.height {
+        return 7;
+    }
+    if little_endian::samples_within(4095, sample_bytes(store)) {
+        0
+    } else {
+        9
+    }
+}
+
+// The packet's samples into a mosaic of exactly as many, and its fields.
+pub fn read_mosaic(store: &[u8], mosaic: &mut [u16]) -> ReadPacket
+    ensures { λ r. ⌜ MosaicResult (now (store .entry)) (now (mosaic .entry)) r (now (mosaic .exit)) ⌝ }
+{
+    let number = mosaic_refusal(store, mosaic.len());
+    if number != 0 {
+        return ReadPacket::Refused(number);
+    }
+    little_endian::read_samples(sample_bytes(store), mosaic);
+    ReadPacket::Sound(trailer_fields(store))
+}
+
+// ---- the writer
+
+fn put_trailer(f: Fields, back: usize, out: &mut [u8], at: usize)
+    requires { ⌜ at + 12 ≤ length (now out) ⌝ }
+    requires { ⌜ back ≡ distance f ⌝ }
+    ensures { λ _. ⌜ now (out .exit) ≡ sets (now (out .entry)) at (trailer f) ⌝ }
+{
+    little_endian::put(out, at, 2, f.width);
+    little_endian::put(out, at + 2, 2, f.height);
+    little_endian::put(out, at + 4, 1, f.layout as usize);
+    little_endian::put(out, at + 5, 1, f.rounds as usize);
+    little_endian::put(out, at + 6, 2, f.threshold as usize);
+    little_endian::put(out, at + 8, 4, back);
+}
+
+// Questions 1, 2, 3, 4, 5, 6, 9 and 14.
+fn write_refusal(f: Fields, samples: &[u16], room: usize) -> u32
+    ensures { λ r. ⌜ r ≡ ask (write-questions f (now (samples .entry)) room) ⌝ }
+{
+    let number = fields_refusal(f);
+    if number != 0 {
+        return number;
+    }
+    let count = f.width * f.height;
+    if samples.len() != count {
+        return 6;
+    }
+    if !questions::samples_within(4095, samples) {
+        return 9;
+    }
+    if room < 2 * count + 12 {
+        return 14;
+    }
+    0
+}
+
+// The writer: the packet into the first bytes of `out`; the rest stays.
+pub fn write_packet(f: Fields, samples: &[u16], out: &mut [u8]) -> WrittenPacket
+    ensures { λ r. ⌜ WriteResult f (now (samples .entry)) (now (out .entry)) r (now (out .exit)) ⌝ }
+{
+    let number = write_refusal(f, samples, out.len());
+    if number != 0 {
+        return WrittenPacket::Refused(number);
+    }
+    let at = 2 * samples.len();
+    little_endian::write_samples(samples, out);
+    put_trailer(f, at + 12, out, at);
+    WrittenPacket::Bytes(at + 12)
+}
+
+// ---- the repeat call
+
+fn same_shape(f: Fields, g: Fields) -> bool
+    ensures { λ r. ⌜ r ≡ same-frame f g ⌝ }
+{
+    if f.width != g.width {
+        return false;
+    }
+    if f.height != g.height {
+        return false;
+    }
+    f.layout == g.layout
+}
+
+// Questions 11, 1, 2, 3, 4, 5, 12, 13 and 9 of the first store, then of the second.
+fn repeat_refusal(a: &[u8], b: &[u8]) -> u32
+    ensures { λ r. ⌜ r ≡ ask (repeat-questions (now (a .entry)) (now (b .entry))) ⌝ }
+{
+    let number = packet_refusal(a);
+    if number != 0 {
+        return number;
+    }
+    packet_refusal(b)
+}
+
+// The repeat call: whether packet a repeats packet b.
+pub fn repeats_packet(a: &[u8], b: &[u8]) -> Repeat
+    ensures { λ r. ⌜ RepeatResult (now (a .entry)) (now (b .entry)) r ⌝ }
+{
+    let number = repeat_refusal(a, b);
+    if number != 0 {
+        return Repeat::Refused(number);
+    }
+    if !same_shape(trailer_fields(a), trailer_fields(b)) {
+        return Repeat::No;
+    }
+    if little_endian::same_samples(sample_bytes(a), sample_bytes(b)) {
+        Repeat::Yes
+    } else {
+        Repeat::No
+    }
+}
