@@ -4,5 +4,7 @@
 //! and simple: what it answers is compared with what the engine answers.
 
 pub mod border;
+pub mod packet;
+pub mod packet_examples;
 pub mod turns;
 pub mod worked_examples;

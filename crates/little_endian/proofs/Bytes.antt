@@ -2,17 +2,29 @@
 -- it was read from. Assumes nothing.
 use Prim.Native.Nat.{ℕ, zero, suc, _+_, _*_, _-_, _/_, _%_, _^_, _≤_, _<_}
 use mathlib.Core.Path.{_≡_, refl, sym, ap, _∙_, subst}
-use mathlib.Core.List.{List, [], _∷_, _++_}
+use mathlib.Core.List.{List, _∷_, _++_}
+use native.Mathlib.Decide.{decLt}
 use native.Mathlib.Nat.{add-zero, sub-zero, zero-lt-suc, div-lt-iff-lt-mul, pow-suc}
 use native.Mathlib.Numerals.{add-one}
 use native.Mathlib.Omega.{arith}
-use lib.ListN.{length, getD, take, drop, set}
-use lib.Seq.{drop-cons, getD-drop, sets}
+use lib.ListN.{length, getD, take, drop, set, length-take, List·getD-eq-default}
+use lib.Seq.{drop-cons, getD-take, getD-drop, sets}
 use Rattle.little_endian.specs.Bytes.{bytes-of, number-at}
 
 -- every element is a byte
 pub record Bytes (l : List ℕ) : Type 0 where
   pub small : (k : ℕ) → getD l k 0 < 256
+
+-- as is every element of a part
+pub bytes-take : (n : ℕ) (l : List ℕ) → Bytes l → Bytes (take n l)
+bytes-take n l b = record { small = λ k. either k (decLt k n) }
+  where
+    either : (k : ℕ) → Dec (k < n) → getD (take n l) k 0 < 256
+    either k (yes h) = omega (arith, getD-take n l k 0 h, b .small k)
+    either k (no h) = omega (arith, List·getD-eq-default (take n l) 0 {n = k} (omega (arith, length-take n l)))
+
+pub bytes-drop : (n : ℕ) (l : List ℕ) → Bytes l → Bytes (drop n l)
+bytes-drop n l b = record { small = λ k. omega (arith, getD-drop n l k 0, b .small (n + k)) }
 
 pub length-bytes-of : (n x : ℕ) → length (bytes-of n x) ≡ n
 unfolding bytes-of

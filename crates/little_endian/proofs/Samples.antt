@@ -1,15 +1,15 @@
 -- The laws of samples in bytes: lengths, there and back, and the loops that read, write and compare them. Assumes nothing.
 use Prim.Native.Nat.{ℕ, zero, suc, _+_, _*_, _/_, _%_, _≤_, _<_}
-use mathlib.Core.Path.{_≡_, refl, sym, ap, _∙_, subst}
+use mathlib.Core.Path.{_≡_, refl, sym, ap, _∙_}
 use mathlib.Core.Bool.{true, false}
 use mathlib.Core.List.{List, [], _∷_, _++_}
 use native.Mathlib.Nat.{add-zero}
 use native.Mathlib.Numerals.{add-one}
 use native.Mathlib.Omega.{arith}
-use lib.ListN.{length, getD, take, drop, length-append, drop-of-length-le}
+use lib.ListN.{length, getD, drop, drop-of-length-le}
 use lib.Seq.{drop-cons, sets}
 use Rattle.integers.specs.Lists.{tabulate, overwrite, same-list}
-use Rattle.integers.proofs.Lists.{getD-tabulate, tabulate-cons, tabulate-cong, overwrite-all, same-list-yes, same-list-no}
+use Rattle.integers.proofs.Lists.{length-tabulate, getD-tabulate, tabulate-cons, tabulate-cong, overwrite-all, same-list-yes, same-list-no}
 use Rattle.little_endian.specs.Bytes.{bytes-of, number-at, sample-bytes, sample-at, samples-in}
 use Rattle.little_endian.proofs.Bytes.{Bytes, number-at-cons}
 
@@ -18,6 +18,10 @@ pub length-sample-bytes : (s : List ℕ) → length (sample-bytes s) ≡ 2 * len
 unfolding sample-bytes bytes-of
 length-sample-bytes [] = refl
 length-sample-bytes (x ∷ xs) = omega (arith, length-sample-bytes xs)
+
+pub length-samples-in : (l : List ℕ) (n : ℕ) → length l ≡ 2 * n → length (samples-in l) ≡ n
+unfolding samples-in
+length-samples-in l n e = length-tabulate (length l / 2) (sample-at l) ∙ omega arith
 
 -- ---- there and back
 samples-in-cons : (a b : ℕ) (l : List ℕ) → samples-in (a ∷ b ∷ l) ≡ (a + 256 * b) ∷ samples-in l

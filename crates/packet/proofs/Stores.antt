@@ -1,15 +1,15 @@
 -- What the reader's questions say of a store, and what its calls show at their returns. Assumes nothing.
-use Prim.Native.Nat.{ℕ, _+_, _*_, _-_, _≤_, _<_}
-use mathlib.Core.Path.{_≡_, refl, sym, ap, _∙_, subst}
+use Prim.Native.Nat.{ℕ, _+_, _*_, _-_, _≤_}
+use mathlib.Core.Path.{_≡_, refl, sym, ap, _∙_}
 use mathlib.Core.Bool.{Bool, true}
-use mathlib.Core.List.{List, [], _∷_, _++_}
+use mathlib.Core.List.{List, [], _∷_}
 use native.Mathlib.Nat.{add-zero}
 use native.Mathlib.Omega.{arith}
 use lib.Dec.{leb, eqb}
 use lib.ListN.{length, getD, take, drop, length-drop}
 use lib.Seq.{length-take-le}
 use borrow.Author.Tests.{le-leb, leb-true, eqb-true}
-use Rattle.questions.specs.Questions.{Question, question, ask, all-at-most, ceiling, shape-questions, settings-questions, samples-question}
+use Rattle.questions.specs.Questions.{question, ask, all-at-most, ceiling, shape-questions, settings-questions, samples-question}
 use Rattle.questions.proofs.Asking.{AllYes, all-yes, all-yes-split, Shape, shape-is, ask-yes, ask-zero, ask-first, ask-later}
 use Rattle.questions.proofs.Answering.{answer-no, answer-yes, left-no, left-yes}
 use Rattle.little_endian.specs.Bytes.{number-at}
@@ -21,6 +21,7 @@ use Rattle.packet.specs.declared.ReadPacket.the-variants.{Sound, Refused
 -- ---- what a yes says
 -- of 1, 2, 3, 4 and 5
 pub record Allowed (f : Fields) : Type 0 where
+  pub answers : AllYes (fields-questions f)
   pub shape : Shape (f .width) (f .height) (f .layout)
   pub rounds : f .rounds ≤ 64
   pub threshold : f .threshold ≤ ceiling
@@ -29,6 +30,7 @@ pub allowed : (f : Fields) → AllYes (fields-questions f) → Allowed f
 allowed f y =
     let p = all-yes-split (shape-questions (f .width) (f .height) (f .layout)) (settings-questions ceiling (f .rounds) (f .threshold)) y in
     record {
+      answers = y;
       shape = shape-is (f .width) (f .height) (f .layout) (p .0);
       rounds = leb-true (f .rounds) 64 (p .1 .0);
       threshold = leb-true (f .threshold) ceiling (p .1 .1 .0);

@@ -4,9 +4,6 @@ use Rattle.little_endian.proofs.Bytes.{number-of-four}
 use borrow.Author.Needs.{needs}
 use Rattle.little_endian.proofs.four.Statement.{statement}
 use Rattle.little_endian.proofs.four.Tie as tie
-use Rattle.little_endian.proofs.four.Reads as reads
-use Rattle.little_endian.proofs.four.Lts as lts
-use Rattle.little_endian.proofs.two.Reads as two-reads
 
 two-requires : tie.Need-two-requires
 two-requires c κs = search needs

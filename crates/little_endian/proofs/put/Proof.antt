@@ -1,7 +1,7 @@
 -- `little_endian::put` meets its contract: the bytes that are left to store, stored, make what is promised.
 -- Assumes nothing.
 use mathlib.Core.Path.{_≡_, refl, _∙_}
-use Prim.Native.Nat.{ℕ, _+_, _-_, _≤_}
+use Prim.Native.Nat.{_+_, _-_, _≤_}
 use native.Mathlib.Omega.{arith}
 use lib.ListN.{length, length-set}
 use lib.Seq.{sets}
@@ -10,8 +10,6 @@ use Rattle.little_endian.specs.Bytes.{bytes-of}
 use Rattle.little_endian.proofs.Bytes.{put-none, put-step, put-end}
 use Rattle.little_endian.proofs.put.Statement.{statement}
 use Rattle.little_endian.proofs.put.Tie as tie
-use Rattle.little_endian.proofs.put.Reads as reads
-use Rattle.little_endian.proofs.put.Lts as lts
 
 abbrev Inv-loop : tie.InvT-loop
 Inv-loop out₀ at n value rest₀ k₀ out rest k =

@@ -1,7 +1,7 @@
 -- `little_endian::read_samples` meets its contract: after k turns, k samples are laid down.
 -- Assumes nothing.
-use mathlib.Core.Path.{_≡_, refl, ap, _∙_}
-use Prim.Native.Nat.{ℕ, _+_, _*_, _-_, _/_, _≤_}
+use mathlib.Core.Path.{_≡_, refl}
+use Prim.Native.Nat.{_-_, _≤_}
 use native.Mathlib.Omega.{arith}
 use lib.ListN.{length}
 use denote.Ref.{now}
@@ -12,9 +12,6 @@ use Rattle.little_endian.specs.Bytes.{sample-at}
 use Rattle.little_endian.proofs.Samples.{read-end}
 use Rattle.little_endian.proofs.read_samples.Statement.{statement}
 use Rattle.little_endian.proofs.read_samples.Tie as tie
-use Rattle.little_endian.proofs.read_samples.Reads as reads
-use Rattle.little_endian.proofs.read_samples.Lts as lts
-use Rattle.little_endian.proofs.two.Reads as two-reads
 
 abbrev Inv-loop : tie.InvT-loop
 Inv-loop bytes samples₀ k₀ samples k =

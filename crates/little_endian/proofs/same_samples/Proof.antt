@@ -1,18 +1,14 @@
 -- `little_endian::same_samples` meets its contract: the samples passed agree.
 -- Assumes nothing.
 use mathlib.Core.Path.{_≡_, sym, _∙_}
-use Prim.Native.Nat.{ℕ, _+_, _*_, _-_, _/_, _≤_}
+use Prim.Native.Nat.{_-_, _≤_}
 use native.Mathlib.Omega.{arith}
-use lib.ListN.{length}
 use denote.Ref.{now}
 use Rattle.integers.specs.Lists.{tabulate}
 use Rattle.little_endian.specs.Bytes.{sample-at}
 use Rattle.little_endian.proofs.Samples.{same-none, same-step, same-no, same-yes}
 use Rattle.little_endian.proofs.same_samples.Statement.{statement}
 use Rattle.little_endian.proofs.same_samples.Tie as tie
-use Rattle.little_endian.proofs.same_samples.Reads as reads
-use Rattle.little_endian.proofs.same_samples.Lts as lts
-use Rattle.little_endian.proofs.two.Reads as two-reads
 
 abbrev Inv-loop : tie.InvT-loop
 Inv-loop a b n k₀ k = (k ≤ n) × (tabulate k (sample-at a) ≡ tabulate k (sample-at b))

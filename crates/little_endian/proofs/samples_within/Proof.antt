@@ -1,7 +1,7 @@
 -- `little_endian::samples_within` meets its contract: the samples passed are at most `top` if `most`, their largest, is.
 -- Assumes nothing.
-use mathlib.Core.Path.{_≡_, refl, ap, _∙_}
-use Prim.Native.Nat.{ℕ, _+_, _*_, _-_, _/_, _≤_}
+use mathlib.Core.Path.{_≡_, ap, _∙_}
+use Prim.Native.Nat.{ℕ, _-_, _/_, _≤_}
 use native.Mathlib.Omega.{arith}
 use lib.ListN.{length}
 use denote.Ref.{now}
@@ -12,10 +12,6 @@ use Rattle.questions.proofs.Asking.{scan-none, scan-more}
 use Rattle.little_endian.specs.Bytes.{sample-at, samples-in}
 use Rattle.little_endian.proofs.samples_within.Statement.{statement}
 use Rattle.little_endian.proofs.samples_within.Tie as tie
-use Rattle.little_endian.proofs.samples_within.Reads as reads
-use Rattle.little_endian.proofs.samples_within.Lts as lts
-use Rattle.little_endian.proofs.two.Reads as two-reads
-use Rattle.questions.proofs.larger.Reads as larger-reads
 
 abbrev Inv-loop : tie.InvT-loop
 Inv-loop top bytes n most₀ k₀ most k = (k ≤ n) × (leb most top ≡ all-at-most top (tabulate k (sample-at bytes)))

@@ -5,9 +5,6 @@ use borrow.Author.Needs.{needs}
 use Rattle.little_endian.specs.Bytes.{number-at}
 use Rattle.little_endian.proofs.two.Statement.{statement}
 use Rattle.little_endian.proofs.two.Tie as tie
-use Rattle.little_endian.proofs.two.Reads as reads
-use Rattle.little_endian.proofs.two.Lts as lts
-use Rattle.little_endian.proofs.byte.Reads as byte-reads
 
 shared-slice-read-byte : tie.Need-shared-slice-read-byte
 shared-slice-read-byte c = search needs

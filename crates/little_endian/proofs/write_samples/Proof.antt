@@ -1,7 +1,7 @@
 -- `little_endian::write_samples` meets its contract: the samples that are left, written, make what is promised.
 -- Assumes nothing.
 use mathlib.Core.Path.{_≡_, refl, _∙_}
-use Prim.Native.Nat.{ℕ, _+_, _*_, _-_, _≤_}
+use Prim.Native.Nat.{_*_, _-_, _≤_}
 use native.Mathlib.Omega.{arith}
 use lib.ListN.{length, drop}
 use lib.Seq.{sets}
@@ -10,9 +10,6 @@ use Rattle.little_endian.specs.Bytes.{sample-bytes}
 use Rattle.little_endian.proofs.Samples.{write-step, write-end}
 use Rattle.little_endian.proofs.write_samples.Statement.{statement}
 use Rattle.little_endian.proofs.write_samples.Tie as tie
-use Rattle.little_endian.proofs.write_samples.Reads as reads
-use Rattle.little_endian.proofs.write_samples.Lts as lts
-use Rattle.little_endian.proofs.put_sample.Reads as put-sample-reads
 
 abbrev Inv-loop : tie.InvT-loop
 Inv-loop samples out₀ k₀ out k =

@@ -5,10 +5,6 @@ use Rattle.questions.proofs.Asking.{ask-first, ask-later, all-yes}
 use borrow.Author.Needs.{needs}
 use Rattle.packet.proofs.fields_refusal.Statement.{statement}
 use Rattle.packet.proofs.fields_refusal.Tie as tie
-use Rattle.packet.proofs.fields_refusal.Reads as reads
-use Rattle.packet.proofs.fields_refusal.Lts as lts
-use Rattle.questions.proofs.settings.Reads as settings-reads
-use Rattle.questions.proofs.shape.Reads as shape-reads
 
 shape-requires : tie.Need-shape-requires
 shape-requires c κs = search needs

@@ -15,12 +15,6 @@ use Rattle.packet.proofs.Stores.{Allowed, Located, located, mosaic-rest
 use borrow.Author.Needs.{needs}
 use Rattle.packet.proofs.mosaic_refusal.Statement.{statement}
 use Rattle.packet.proofs.mosaic_refusal.Tie as tie
-use Rattle.packet.proofs.mosaic_refusal.Reads as reads
-use Rattle.packet.proofs.mosaic_refusal.Lts as lts
-use Rattle.little_endian.proofs.samples_within.Reads as samples-within-reads
-use Rattle.packet.proofs.sample_bytes.Reads as sample-bytes-reads
-use Rattle.packet.proofs.store_refusal.Reads as store-refusal-reads
-use Rattle.packet.proofs.trailer_fields.Reads as trailer-fields-reads
 
 store-refusal-requires : tie.Need-store-refusal-requires
 store-refusal-requires c κs = search needs

@@ -13,11 +13,6 @@ use Rattle.packet.proofs.Stores.{read-rest}
 use borrow.Author.Needs.{needs}
 use Rattle.packet.proofs.packet_refusal.Statement.{statement}
 use Rattle.packet.proofs.packet_refusal.Tie as tie
-use Rattle.packet.proofs.packet_refusal.Reads as reads
-use Rattle.packet.proofs.packet_refusal.Lts as lts
-use Rattle.little_endian.proofs.samples_within.Reads as samples-within-reads
-use Rattle.packet.proofs.sample_bytes.Reads as sample-bytes-reads
-use Rattle.packet.proofs.store_refusal.Reads as store-refusal-reads
 
 store-refusal-requires : tie.Need-store-refusal-requires
 store-refusal-requires c κs = search needs

@@ -5,10 +5,6 @@ use Rattle.packet.proofs.Stores.{SoundPacket, sound, part-no, part-yes}
 use borrow.Author.Needs.{needs}
 use Rattle.packet.proofs.packet_samples.Statement.{statement}
 use Rattle.packet.proofs.packet_samples.Tie as tie
-use Rattle.packet.proofs.packet_samples.Reads as reads
-use Rattle.packet.proofs.packet_samples.Lts as lts
-use Rattle.packet.proofs.packet_refusal.Reads as packet-refusal-reads
-use Rattle.packet.proofs.sample_bytes.Reads as sample-bytes-reads
 
 packet-refusal-requires : tie.Need-packet-refusal-requires
 packet-refusal-requires c κs = search needs

@@ -7,9 +7,6 @@ use Rattle.packet.proofs.Writing.{trailer-stored}
 use borrow.Author.Needs.{needs}
 use Rattle.packet.proofs.put_trailer.Statement.{statement}
 use Rattle.packet.proofs.put_trailer.Tie as tie
-use Rattle.packet.proofs.put_trailer.Reads as reads
-use Rattle.packet.proofs.put_trailer.Lts as lts
-use Rattle.little_endian.proofs.put.Reads as put-reads
 
 put-requires : tie.Need-put-requires
 put-requires c κs = search needs

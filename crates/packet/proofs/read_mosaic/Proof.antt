@@ -1,9 +1,7 @@
 -- `packet::read_mosaic` meets its contract.
 -- Assumes nothing.
-use mathlib.Core.Path.{_≡_, ap, sym, _∙_}
-use mathlib.Core.List.{List}
+use mathlib.Core.Path.{ap, sym, _∙_}
 use Prim.Native.Nat.{ℕ, _*_}
-use native.Mathlib.Omega.{arith}
 use lib.ListN.{length}
 use denote.Ref.{now}
 use Rattle.little_endian.specs.Bytes.{samples-in}
@@ -11,12 +9,6 @@ use Rattle.packet.proofs.Stores.{FillingPacket, filling, length-part, m
 use borrow.Author.Needs.{needs}
 use Rattle.packet.proofs.read_mosaic.Statement.{statement}
 use Rattle.packet.proofs.read_mosaic.Tie as tie
-use Rattle.packet.proofs.read_mosaic.Reads as reads
-use Rattle.packet.proofs.read_mosaic.Lts as lts
-use Rattle.little_endian.proofs.read_samples.Reads as read-samples-reads
-use Rattle.packet.proofs.mosaic_refusal.Reads as mosaic-refusal-reads
-use Rattle.packet.proofs.sample_bytes.Reads as sample-bytes-reads
-use Rattle.packet.proofs.trailer_fields.Reads as trailer-fields-reads
 
 mosaic-refusal-requires : tie.Need-mosaic-refusal-requires
 mosaic-refusal-requires c κs = search needs

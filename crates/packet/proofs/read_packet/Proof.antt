@@ -5,10 +5,6 @@ use Rattle.packet.proofs.Stores.{SoundPacket, sound, read-no, read-yes}
 use borrow.Author.Needs.{needs}
 use Rattle.packet.proofs.read_packet.Statement.{statement}
 use Rattle.packet.proofs.read_packet.Tie as tie
-use Rattle.packet.proofs.read_packet.Reads as reads
-use Rattle.packet.proofs.read_packet.Lts as lts
-use Rattle.packet.proofs.packet_refusal.Reads as packet-refusal-reads
-use Rattle.packet.proofs.trailer_fields.Reads as trailer-fields-reads
 
 packet-refusal-requires : tie.Need-packet-refusal-requires
 packet-refusal-requires c κs = search needs

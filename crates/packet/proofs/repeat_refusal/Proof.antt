@@ -6,9 +6,6 @@ use Rattle.packet.specs.Calls.{read-questions}
 use borrow.Author.Needs.{needs}
 use Rattle.packet.proofs.repeat_refusal.Statement.{statement}
 use Rattle.packet.proofs.repeat_refusal.Tie as tie
-use Rattle.packet.proofs.repeat_refusal.Reads as reads
-use Rattle.packet.proofs.repeat_refusal.Lts as lts
-use Rattle.packet.proofs.packet_refusal.Reads as packet-refusal-reads
 
 packet-refusal-requires : tie.Need-packet-refusal-requires
 packet-refusal-requires c κs = search needs

@@ -2,23 +2,16 @@
 -- Assumes nothing.
 use mathlib.Core.Path.{_≡_, sym, ap, _∙_}
 use mathlib.Core.Bool.{true, false}
-use Prim.Native.Nat.{ℕ, _*_}
+use Prim.Native.Nat.{_*_}
 use lib.ListN.{length}
 use denote.Ref.{now}
 use Rattle.integers.proofs.Tests.{not-is}
 use Rattle.packet.specs.Packet.{repeats}
 use Rattle.packet.proofs.Stores.{SoundPacket, length-part}
-use Rattle.packet.proofs.Repeating.{SameFrame, sound-both, same-fields, other-frame, samples-decide, repeat-no, repeat-yes}
+use Rattle.packet.proofs.Repeating.{sound-both, same-fields, other-frame, samples-decide, repeat-no, repeat-yes}
 use borrow.Author.Needs.{needs}
 use Rattle.packet.proofs.repeats_packet.Statement.{statement}
 use Rattle.packet.proofs.repeats_packet.Tie as tie
-use Rattle.packet.proofs.repeats_packet.Reads as reads
-use Rattle.packet.proofs.repeats_packet.Lts as lts
-use Rattle.little_endian.proofs.same_samples.Reads as same-samples-reads
-use Rattle.packet.proofs.repeat_refusal.Reads as repeat-refusal-reads
-use Rattle.packet.proofs.same_shape.Reads as same-shape-reads
-use Rattle.packet.proofs.sample_bytes.Reads as sample-bytes-reads
-use Rattle.packet.proofs.trailer_fields.Reads as trailer-fields-reads
 
 repeat-refusal-requires : tie.Need-repeat-refusal-requires
 repeat-refusal-requires c κs = search needs

@@ -3,8 +3,6 @@
 use Rattle.packet.proofs.Repeating.{width-differs, height-differs, layout-decides}
 use Rattle.packet.proofs.same_shape.Statement.{statement}
 use Rattle.packet.proofs.same_shape.Tie as tie
-use Rattle.packet.proofs.same_shape.Reads as reads
-use Rattle.packet.proofs.same_shape.Lts as lts
 
 returns : tie.Need-returns
 returns c = width-differs _ _ (c .if1 .taken)

@@ -8,9 +8,6 @@ use Rattle.packet.proofs.Stores.{Located, located, part-is}
 use borrow.Author.Needs.{needs}
 use Rattle.packet.proofs.sample_bytes.Statement.{statement}
 use Rattle.packet.proofs.sample_bytes.Tie as tie
-use Rattle.packet.proofs.sample_bytes.Reads as reads
-use Rattle.packet.proofs.sample_bytes.Lts as lts
-use Rattle.little_endian.proofs.four.Reads as four-reads
 
 known : (c : tie.After-shared-slice-known) → Located (now (c .before .args .store))
 known c = located (now (c .before .args .store)) 0 (sym (c .before .pre)) refl

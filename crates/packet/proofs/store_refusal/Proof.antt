@@ -8,11 +8,6 @@ use Rattle.packet.proofs.Stores.{Allowed, allowed, store-first, store-r
 use borrow.Author.Needs.{needs}
 use Rattle.packet.proofs.store_refusal.Statement.{statement}
 use Rattle.packet.proofs.store_refusal.Tie as tie
-use Rattle.packet.proofs.store_refusal.Reads as reads
-use Rattle.packet.proofs.store_refusal.Lts as lts
-use Rattle.little_endian.proofs.four.Reads as four-reads
-use Rattle.packet.proofs.fields_refusal.Reads as fields-refusal-reads
-use Rattle.packet.proofs.trailer_fields.Reads as trailer-fields-reads
 
 returns : tie.Need-returns
 returns c = search asking

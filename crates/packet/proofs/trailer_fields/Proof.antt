@@ -4,9 +4,6 @@ use Rattle.packet.proofs.Stores.{fields-are}
 use borrow.Author.Needs.{needs}
 use Rattle.packet.proofs.trailer_fields.Statement.{statement}
 use Rattle.packet.proofs.trailer_fields.Tie as tie
-use Rattle.packet.proofs.trailer_fields.Reads as reads
-use Rattle.packet.proofs.trailer_fields.Lts as lts
-use Rattle.little_endian.proofs.two.Reads as two-reads
 
 sub-at : tie.Need-sub-at
 sub-at c = search needs

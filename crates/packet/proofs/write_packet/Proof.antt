@@ -1,6 +1,6 @@
 -- `packet::write_packet` meets its contract.
 -- Assumes nothing.
-use mathlib.Core.Path.{_≡_, refl}
+use mathlib.Core.Path.{refl}
 use native.Mathlib.Omega.{arith}
 use lib.ListN.{length}
 use denote.Ref.{now}
@@ -8,11 +8,6 @@ use Rattle.packet.proofs.Writing.{Writable, writable, write-no, write-y
 use borrow.Author.Needs.{needs}
 use Rattle.packet.proofs.write_packet.Statement.{statement}
 use Rattle.packet.proofs.write_packet.Tie as tie
-use Rattle.packet.proofs.write_packet.Reads as reads
-use Rattle.packet.proofs.write_packet.Lts as lts
-use Rattle.little_endian.proofs.write_samples.Reads as write-samples-reads
-use Rattle.packet.proofs.put_trailer.Reads as put-trailer-reads
-use Rattle.packet.proofs.write_refusal.Reads as write-refusal-reads
 
 write-refusal-requires : tie.Need-write-refusal-requires
 write-refusal-requires c κs = search needs

@@ -12,10 +12,6 @@ use Rattle.packet.proofs.Writing.{write-rest}
 use borrow.Author.Needs.{needs}
 use Rattle.packet.proofs.write_refusal.Statement.{statement}
 use Rattle.packet.proofs.write_refusal.Tie as tie
-use Rattle.packet.proofs.write_refusal.Reads as reads
-use Rattle.packet.proofs.write_refusal.Lts as lts
-use Rattle.packet.proofs.fields_refusal.Reads as fields-refusal-reads
-use Rattle.questions.proofs.samples_within.Reads as samples-within-reads
 
 fields-refusal-requires : tie.Need-fields-refusal-requires
 fields-refusal-requires c κs = search needs
