@@ -26,11 +26,6 @@ bytes-take n l b = record { small = λ k. either k (decLt k n) }
 pub bytes-drop : (n : ℕ) (l : List ℕ) → Bytes l → Bytes (drop n l)
 bytes-drop n l b = record { small = λ k. omega (arith, getD-drop n l k 0, b .small (n + k)) }
 
-pub length-bytes-of : (n x : ℕ) → length (bytes-of n x) ≡ n
-unfolding bytes-of
-length-bytes-of zero x = refl
-length-bytes-of (suc n) x = ap suc (length-bytes-of n (x / 256))
-
 -- ---- a number is seen from where it stands
 pub number-at-drop : (n : ℕ) (l : List ℕ) (i j : ℕ) → number-at n l (i + j) ≡ number-at n (drop i l) j
 unfolding number-at

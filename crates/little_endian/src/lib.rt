@@ -18,7 +18,9 @@ pub fn two(bytes: &[u8], at: usize) -> u16
     requires { ⌜ at + 1 < length (now bytes) ⌝ }
     ensures { λ r. ⌜ r ≡ number-at 2 (now (bytes .entry)) at ⌝ }
 {
-    byte(bytes[at]) + 256 * byte(bytes[at + 1])
+    let low = byte(bytes[at]);
+    let high = byte(bytes[at + 1]);
+    low + 256 * high
 }
 
 // The number in the four bytes from `at` on.

@@ -1,7 +1,7 @@
 -- What the reader's questions say of a store, and what its calls show at their returns. Assumes nothing.
 use Prim.Native.Nat.{ℕ, _+_, _*_, _-_, _≤_}
 use mathlib.Core.Path.{_≡_, refl, sym, ap, _∙_}
-use mathlib.Core.Bool.{Bool, true}
+use mathlib.Core.Bool.{true}
 use mathlib.Core.List.{List, [], _∷_}
 use native.Mathlib.Nat.{add-zero}
 use native.Mathlib.Omega.{arith}
@@ -85,15 +85,20 @@ filling s room n e z =
     record { at = located-by s (p .0); fit = eqb-true room _ (p .1 .0); small = p .1 .1 .0 }
 
 -- ---- the trailer and the part, as the code reads them
-pub fields-are : (s : List ℕ) (w h t : ℕ) → w ≡ number-at 2 s (trailer-place s) → h ≡ number-at 2 s (trailer-place s + 2) → t ≡ number-at 2 s (trailer-place s + 6)
-    → record { width = w; height = h; layout = getD s (trailer-place s + 4) 0; rounds = getD s (trailer-place s + 5) 0; threshold = t } ≡ fields-of s
-unfolding fields-of number-at
-fields-are s w h t p q r =
-    λ j. record { width = p j; height = q j; layout = sym (add-zero (getD s (trailer-place s + 4) 0)) j; rounds = sym (add-zero (getD s (trailer-place s + 5) 0)) j; threshold = r j }
+module _ (s : List ℕ) (t : ℕ) (e : t ≡ trailer-place s) where
+  pub fields-are : (w h n : ℕ) → w ≡ number-at 2 s t → h ≡ number-at 2 s (t + 2) → n ≡ number-at 2 s (t + 6)
+      → record { width = w; height = h; layout = getD s (t + 4) 0; rounds = getD s (t + 5) 0; threshold = n } ≡ fields-of s
+  unfolding fields-of number-at
+  fields-are w h n p q r =
+      (λ j. record { width = p j; height = q j; layout = sym (add-zero (getD s (t + 4) 0)) j; rounds = sym (add-zero (getD s (t + 5) 0)) j; threshold = r j })
+      ∙ (λ j. record { width = number-at 2 s (e j); height = number-at 2 s (e j + 2); layout = number-at 1 s (e j + 4); rounds = number-at 1 s (e j + 5); threshold = number-at 2 s (e j + 6) })
 
-pub part-is : (s : List ℕ) (d : ℕ) → d ≡ distance-in s → take (trailer-place s - (length s - d)) (drop (length s - d) s) ≡ sample-part s
-unfolding sample-part
-part-is s d e = ap (λ (k : ℕ). take (trailer-place s - (length s - k)) (drop (length s - k) s)) e
+  pub distance-is : (d : ℕ) → d ≡ number-at 4 s (t + 8) → d ≡ distance-in s
+  distance-is d p = p ∙ ap (λ (i : ℕ). number-at 4 s (i + 8)) e
+
+  pub part-is : (d : ℕ) → d ≡ distance-in s → take (t - (length s - d)) (drop (length s - d) s) ≡ sample-part s
+  unfolding sample-part
+  part-is d p = λ j. take (e j - (length s - p j)) (drop (length s - p j) s)
 
 pub length-part : (s : List ℕ) → Located s → length (sample-part s) ≡ 2 * (fields-of s .width * fields-of s .height)
 unfolding sample-part
@@ -116,16 +121,11 @@ module _ (s : List ℕ) (f : Fields) (e : f ≡ fields-of s) (n : ℕ) (p : n �
       (ask-later (fields-questions (fields-of s)) _ m (all-yes (fields-questions (fields-of s)) tt n (p ∙ ap (λ (g : Fields). ask (fields-questions g)) e) z)
       (r ∙ λ j. ask (distance-questions (q j) (e j) (length s))))
 
--- 9, of what the scan answered
-pub read-rest : (s : List ℕ) (n : ℕ) → n ≡ ask (store-questions s) → n ≡ 0 → (b : Bool) → b ≡ all-at-most ceiling (samples-of s) → (m : ℕ) → m ≡ ask (question 9 b ∷ []) → m ≡ ask (read-questions s)
-read-rest s n e z b p m r =
-    ask-later (store-questions s) _ m (located s n e z .answers) (r ∙ ap (λ (x : Bool). ask (question 9 x ∷ [])) p)
-
--- 7 and 9, where f is the trailer's fields
-pub mosaic-rest : (s : List ℕ) (room n : ℕ) → n ≡ ask (store-questions s) → n ≡ 0 → (f : Fields) → f ≡ fields-of s → (b : Bool) → b ≡ all-at-most ceiling (samples-of s)
-    → (m : ℕ) → m ≡ ask (question 7 (eqb room (f .width * f .height)) ∷ question 9 b ∷ []) → m ≡ ask (mosaic-questions s room)
-mosaic-rest s room n e z f q b p m r =
-    ask-later (store-questions s) _ m (located s n e z .answers) (r ∙ λ j. ask (question 7 (eqb room (q j .width * q j .height)) ∷ question 9 (p j) ∷ []))
+-- 7 and 9
+pub mosaic-rest : (s : List ℕ) (room n : ℕ) → n ≡ ask (store-questions s) → n ≡ 0 → (f : Fields) → f ≡ fields-of s
+    → (m : ℕ) → m ≡ ask (question 7 (eqb room (f .width * f .height)) ∷ samples-question ceiling (samples-of s) ∷ []) → m ≡ ask (mosaic-questions s room)
+mosaic-rest s room n e z f q m r =
+    ask-later (store-questions s) _ m (located s n e z .answers) (r ∙ λ j. ask (question 7 (eqb room (q j .width * q j .height)) ∷ samples-question ceiling (samples-of s) ∷ []))
 
 -- ---- the calls
 module _ (s : List ℕ) (n : ℕ) (e : n ≡ ask (read-questions s)) where

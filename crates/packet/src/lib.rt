@@ -1,10 +1,11 @@
 // Document 01's packet: the reader, the writer and the repeat call.
 ghost use mathlib.Core.Path.{_≡_};
 ghost use Prim.Native.Nat.{_+_, _*_, _≤_, _<_};
+ghost use mathlib.Core.List.{[], _∷_};
 ghost use lib.ListN.{length};
 ghost use lib.Seq.{sets};
-ghost use Rattle.questions.specs.Questions.{ask};
-ghost use Rattle.packet.specs.Packet.{distance, trailer, fields-of, sample-part, same-frame};
+ghost use Rattle.questions.specs.Questions.{ask, ceiling, samples-question};
+ghost use Rattle.packet.specs.Packet.{distance, trailer, trailer-place, fields-of, distance-in, sample-part, samples-of, same-frame};
 ghost use Rattle.packet.specs.Calls.{fields-questions, store-questions, read-questions, mosaic-questions, write-questions, repeat-questions, ReadResult, part-read, MosaicResult, WriteResult, RepeatResult};
 
 // What a packet's trailer says of its frame.
@@ -35,11 +36,19 @@ pub enum Repeat {
 
 // ---- the reader
 
+// Where the trailer begins.
+fn trailer_place(store: &[u8]) -> usize
+    requires { ⌜ 12 ≤ length (now store) ⌝ }
+    ensures { λ r. ⌜ r ≡ trailer-place (now (store .entry)) ⌝ }
+{
+    store.len() - 12
+}
+
 fn trailer_fields(store: &[u8]) -> Fields
     requires { ⌜ 12 ≤ length (now store) ⌝ }
     ensures { λ r. ⌜ r ≡ fields-of (now (store .entry)) ⌝ }
 {
-    let at = store.len() - 12;
+    let at = trailer_place(store);
     Fields {
         width: little_endian::two(store, at) as usize,
         height: little_endian::two(store, at + 2) as usize,
@@ -47,6 +56,13 @@ fn trailer_fields(store: &[u8]) -> Fields
         rounds: store[at + 5],
         threshold: little_endian::two(store, at + 6),
     }
+}
+
+fn distance_back(store: &[u8]) -> usize
+    requires { ⌜ 12 ≤ length (now store) ⌝ }
+    ensures { λ r. ⌜ r ≡ distance-in (now (store .entry)) ⌝ }
+{
+    little_endian::four(store, trailer_place(store) + 8)
 }
 
 // Questions 1, 2, 3, 4 and 5.
@@ -72,9 +88,9 @@ fn store_refusal(store: &[u8]) -> u32
     if number != 0 {
         return number;
     }
-    let at = store.len() - 12;
-    let back = little_endian::four(store, at + 8);
-    if back != 2 * (f.width * f.height) + 12 {
+    let length = 2 * (f.width * f.height) + 12;
+    let back = distance_back(store);
+    if back != length {
         return 12;
     }
     if store.len() < back {
@@ -88,9 +104,21 @@ fn sample_bytes(store: &[u8]) -> &[u8]
     requires { ⌜ ask (store-questions (now store)) ≡ 0 ⌝ }
     ensures { λ r. ⌜ now r ≡ sample-part (now (store .entry)) ⌝ }
 {
-    let at = store.len() - 12;
-    let first = store.len() - little_endian::four(store, at + 8);
-    &store[first..at]
+    let first = store.len() - distance_back(store);
+    let end = trailer_place(store);
+    &store[first..end]
+}
+
+// Question 9 of the packet's samples.
+fn samples_refusal(store: &[u8]) -> u32
+    requires { ⌜ ask (store-questions (now store)) ≡ 0 ⌝ }
+    ensures { λ r. ⌜ r ≡ ask (samples-question ceiling (samples-of (now (store .entry))) ∷ []) ⌝ }
+{
+    if little_endian::samples_within(4095, sample_bytes(store)) {
+        0
+    } else {
+        9
+    }
 }
 
 // The reader's refusal number, 0 for a sound packet: questions 11, 1, 2, 3, 4, 5, 12, 13 and 9.
@@ -101,11 +129,7 @@ pub fn packet_refusal(store: &[u8]) -> u32
     if number != 0 {
         return number;
     }
-    if little_endian::samples_within(4095, sample_bytes(store)) {
-        0
-    } else {
-        9
-    }
+    samples_refusal(store)
 }
 
 // The reader: the fields of the packet whose end is the store's end.
@@ -138,14 +162,11 @@ fn mosaic_refusal(store: &[u8], room: usize) -> u32
         return number;
     }
     let f = trailer_fields(store);
-    if room != f.width * f.height {
+    let count = f.width * f.height;
+    if room != count {
         return 7;
     }
-    if little_endian::samples_within(4095, sample_bytes(store)) {
-        0
-    } else {
-        9
-    }
+    samples_refusal(store)
 }
 
 // The packet's samples into a mosaic of exactly as many, and its fields.

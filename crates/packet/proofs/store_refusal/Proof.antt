@@ -28,41 +28,38 @@ known c =
     let f = c .before .before .trailer-fields .result in
     allowed f (all-yes (fields-questions f) tt _ (c .before .fields-refusal .ensures) (c .if2 .left))
 
-sub-at : tie.Need-sub-at
-sub-at c = search needs
+mul-length : tie.Need-mul-length
+mul-length c = let k = known (c .before) in record { fits = omega (arith, k .shape .area) }
 
-add-four : tie.Need-add-four
-add-four c = search needs
+mul-length-2 : tie.Need-mul-length-2
+mul-length-2 c = let k = known (c .before) in record { fits = omega (arith, k .shape .area) }
 
-four-requires : tie.Need-four-requires
-four-requires c κs = search needs
+add-length : tie.Need-add-length
+add-length c = let k = known (c .before) in record { fits = omega (arith, k .shape .area) }
 
-mul-if3 : tie.Need-mul-if3
-mul-if3 c = let k = known (c .before .before) in record { fits = omega (arith, k .shape .area) }
-
-mul-if3-2 : tie.Need-mul-if3-2
-mul-if3-2 c = let k = known (c .before .before) in record { fits = omega (arith, k .shape .area) }
-
-add-if3 : tie.Need-add-if3
-add-if3 c = let k = known (c .before .before) in record { fits = omega (arith, k .shape .area) }
+distance-back-requires : tie.Need-distance-back-requires
+distance-back-requires c κs = search needs
 
 returns-3 : tie.Need-returns-3
 returns-3 c =
-    let e = c .before .before .before in
+    let d = c .before in
+    let e = d .before .before in
     let t = e .before .before in
-    store-rest (now (t .before .before .before .args .store)) (t .trailer-fields .result) (t .trailer-fields .ensures) _ (e .before .fields-refusal .ensures) (omega arith) (e .if2 .left) _ _ (c .before .before .four .ensures) (search asking)
+    store-rest (now (t .before .before .before .args .store)) (t .trailer-fields .result) (t .trailer-fields .ensures) _ (e .before .fields-refusal .ensures) (omega arith) (e .if2 .left) _ _ (d .distance-back .ensures) (search asking)
 
 returns-4 : tie.Need-returns-4
 returns-4 c =
-    let e = c .before .before .before .before in
+    let d = c .before .before in
+    let e = d .before .before in
     let t = e .before .before in
-    store-rest (now (t .before .before .before .args .store)) (t .trailer-fields .result) (t .trailer-fields .ensures) _ (e .before .fields-refusal .ensures) (omega arith) (e .if2 .left) _ _ (c .before .before .before .four .ensures) (search asking)
+    store-rest (now (t .before .before .before .args .store)) (t .trailer-fields .result) (t .trailer-fields .ensures) _ (e .before .fields-refusal .ensures) (omega arith) (e .if2 .left) _ _ (d .distance-back .ensures) (search asking)
 
 returns-5 : tie.Need-returns-5
 returns-5 c =
-    let e = c .before .before .before .before in
+    let d = c .before .before in
+    let e = d .before .before in
     let t = e .before .before in
-    store-rest (now (t .before .before .before .args .store)) (t .trailer-fields .result) (t .trailer-fields .ensures) _ (e .before .fields-refusal .ensures) (omega arith) (e .if2 .left) _ _ (c .before .before .before .four .ensures) (search asking)
+    store-rest (now (t .before .before .before .args .store)) (t .trailer-fields .result) (t .trailer-fields .ensures) _ (e .before .fields-refusal .ensures) (omega arith) (e .if2 .left) _ _ (d .distance-back .ensures) (search asking)
 
 pub store-refusal-spec : {M : Type 1} → statement M
 store-refusal-spec =
@@ -72,12 +69,10 @@ store-refusal-spec =
     trailer-fields-requires
     fields-refusal-requires
     returns-2
-    sub-at
-    add-four
-    four-requires
-    mul-if3
-    mul-if3-2
-    add-if3
+    mul-length
+    mul-length-2
+    add-length
+    distance-back-requires
     returns-3
     returns-4
     returns-5)

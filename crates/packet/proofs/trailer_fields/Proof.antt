@@ -5,14 +5,14 @@ use borrow.Author.Needs.{needs}
 use Rattle.packet.proofs.trailer_fields.Statement.{statement}
 use Rattle.packet.proofs.trailer_fields.Tie as tie
 
-sub-at : tie.Need-sub-at
-sub-at c = search needs
+trailer-place-requires : tie.Need-trailer-place-requires
+trailer-place-requires c κs = search needs
 
 two-requires : tie.Need-two-requires
 two-requires c κs = search needs
 
-cast-t3 : tie.Need-cast-t3
-cast-t3 c = search needs
+cast-t4 : tie.Need-cast-t4
+cast-t4 c = search needs
 
 add-two : tie.Need-add-two
 add-two c = search needs
@@ -42,15 +42,17 @@ two-requires-3 : tie.Need-two-requires-3
 two-requires-3 c κs = search needs
 
 returns : tie.Need-returns
-returns c = fields-are _ _ _ _ (c .before .before .before .before .two .ensures) (c .before .before .before .two2 .ensures) (c .two3 .ensures)
+returns c =
+    let t = c .before .before .before .before .before in
+    fields-are _ _ (t .trailer-place .ensures) _ _ _ (c .before .before .before .before .two .ensures) (c .before .before .before .two2 .ensures) (c .two3 .ensures)
 
 pub trailer-fields-spec : {M : Type 1} → statement M
 trailer-fields-spec =
     tie.close
     (tie.spec
-    sub-at
+    trailer-place-requires
     two-requires
-    cast-t3
+    cast-t4
     add-two
     two-requires-2
     cast-t7

@@ -1,0 +1,33 @@
+-- `packet::samples_refusal` meets its contract.
+-- Assumes nothing.
+use mathlib.Core.Path.{_≡_, sym, ap, _∙_}
+use mathlib.Core.List.{List}
+use Prim.Native.Nat.{ℕ}
+use denote.Ref.{now}
+use Rattle.questions.specs.Questions.{all-at-most, ceiling}
+use Rattle.questions.proofs.Asking.{ask-no, ask-yes, ask-end}
+use Rattle.little_endian.specs.Bytes.{samples-in}
+use Rattle.packet.specs.Packet.{samples-of}
+use borrow.Author.Needs.{needs}
+use Rattle.packet.proofs.samples_refusal.Statement.{statement}
+use Rattle.packet.proofs.samples_refusal.Tie as tie
+
+sample-bytes-requires : tie.Need-sample-bytes-requires
+sample-bytes-requires c κs = search needs
+
+samples-within-requires : tie.Need-samples-within-requires
+samples-within-requires c κs = search needs
+
+-- what the scan says of the store
+scanned : (c : tie.After-samples-within) → c .samples-within .result ≡ all-at-most ceiling (samples-of (now (c .before .before .before .args .store)))
+scanned c = c .samples-within .ensures ∙ ap (λ (l : List ℕ). all-at-most ceiling (samples-in l)) (c .before .sample-bytes .ensures)
+
+returns : tie.Need-returns
+returns c = ask-yes _ _ _ _ (sym (scanned (c .before)) ∙ c .if1 .taken) ask-end
+
+returns-2 : tie.Need-returns-2
+returns-2 c = ask-no _ _ _ (sym (scanned (c .before)) ∙ c .if1 .left)
+
+pub samples-refusal-spec : {M : Type 1} → statement M
+samples-refusal-spec =
+    tie.close (tie.spec sample-bytes-requires samples-within-requires returns returns-2)
