@@ -208,10 +208,12 @@ fn write_refusal(f: Fields, samples: &[u16], room: usize) -> u32
     if samples.len() != count {
         return 6;
     }
-    if !questions::samples_within(4095, samples) {
+    let length = 2 * count + 12;
+    let within = questions::samples_within(4095, samples);
+    if !within {
         return 9;
     }
-    if room < 2 * count + 12 {
+    if room < length {
         return 14;
     }
     0

@@ -33,6 +33,12 @@ returns-2 c =
     let a = e .before .before .before .args in
     write-rest (a .f) (now (a .samples)) (a .room) _ (e .before .fields-refusal .ensures) (e .if1 .left) _ refl _ (search asking)
 
+mul-length : tie.Need-mul-length
+mul-length c = search needs
+
+add-length : tie.Need-add-length
+add-length c = search needs
+
 samples-within-requires : tie.Need-samples-within-requires
 samples-within-requires c κs = search needs
 
@@ -43,12 +49,6 @@ returns-3 c =
     let a = e .before .before .before .args in
     let above : s .samples-within .result ≡ false = not-is (s .samples-within .result) true (c .if3 .taken) in
     write-rest (a .f) (now (a .samples)) (a .room) _ (e .before .fields-refusal .ensures) (e .if1 .left) _ (s .samples-within .ensures) _ (search asking)
-
-mul-if4 : tie.Need-mul-if4
-mul-if4 c = search needs
-
-add-if4 : tie.Need-add-if4
-add-if4 c = search needs
 
 returns-4 : tie.Need-returns-4
 returns-4 c =
@@ -74,9 +74,9 @@ write-refusal-spec =
     returns
     mul-count
     returns-2
+    mul-length
+    add-length
     samples-within-requires
     returns-3
-    mul-if4
-    add-if4
     returns-4
     returns-5)
