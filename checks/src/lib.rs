@@ -8,3 +8,7 @@ pub mod packet;
 pub mod packet_examples;
 pub mod turns;
 pub mod worked_examples;
+
+/// The programs of examples, and what each must write.
+pub const EXAMPLES: [(&str, fn() -> String); 2] =
+    [("worked_examples", worked_examples::text), ("packet_examples", packet_examples::text)];
