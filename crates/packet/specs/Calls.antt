@@ -21,9 +21,9 @@ use Rattle.packet.specs.declared.Repeat.the-variants as repeat
 abbrev pub fields-questions : Fields → List Question
 fields-questions f = shape-questions (f .width) (f .height) (f .layout) ++ settings-questions ceiling (f .rounds) (f .threshold)
 
--- 12 distance equal to 2·w·h + 12, 13 distance within the store
+-- 12 distance equal to 2·w·h + 12, 13 distance within the store, which has `held` bytes
 abbrev pub distance-questions : ℕ → Fields → ℕ → List Question
-distance-questions back f length = question 12 (eqb back (distance f)) ∷ question 13 (leb back length) ∷ []
+distance-questions back f held = question 12 (eqb back (distance f)) ∷ question 13 (leb back held) ∷ []
 
 -- 11, 1, 2, 3, 4, 5, 12, 13: all that is asked of a store before a sample is looked at
 abbrev pub store-questions : List ℕ → List Question

@@ -50,8 +50,8 @@ abbrev pub samples-of : List ℕ → List ℕ
 samples-of store = samples-in (sample-part store)
 
 -- ---- packet A repeats packet B when width, height, layout and samples agree
-unfoldable pub same-frame : Fields → Fields → Bool
-same-frame f g = eqb (f .width) (g .width) && (eqb (f .height) (g .height) && eqb (f .layout) (g .layout))
+unfoldable pub same-shape : Fields → Fields → Bool
+same-shape f g = eqb (f .width) (g .width) && (eqb (f .height) (g .height) && eqb (f .layout) (g .layout))
 
 unfoldable pub repeats : List ℕ → List ℕ → Bool
-repeats a b = same-frame (fields-of a) (fields-of b) && same-list (samples-of a) (samples-of b)
+repeats a b = same-shape (fields-of a) (fields-of b) && same-list (samples-of a) (samples-of b)

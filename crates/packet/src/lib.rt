@@ -5,10 +5,10 @@ ghost use mathlib.Core.List.{[], _∷_};
 ghost use lib.ListN.{length};
 ghost use lib.Seq.{sets};
 ghost use Rattle.questions.specs.Questions.{ask, ceiling, samples-question};
-ghost use Rattle.packet.specs.Packet.{distance, trailer, trailer-place, fields-of, distance-in, sample-part, samples-of, same-frame};
+ghost use Rattle.packet.specs.Packet.{distance, trailer, trailer-place, fields-of, distance-in, sample-part, samples-of, same-shape};
 ghost use Rattle.packet.specs.Calls.{fields-questions, store-questions, read-questions, mosaic-questions, write-questions, repeat-questions, ReadResult, part-read, MosaicResult, WriteResult, RepeatResult};
 
-// What a packet's trailer says of its frame.
+// Document 01's fields: what a packet's trailer says of its frame.
 pub struct Fields {
     pub width: usize,
     pub height: usize,
@@ -17,17 +17,19 @@ pub struct Fields {
     pub threshold: u16,
 }
 
+// What the reader answers.
 pub enum ReadPacket {
     Sound(Fields),
     Refused(u32),
 }
 
-// How many bytes were written.
+// What the writer answers: how many bytes it wrote.
 pub enum WrittenPacket {
     Bytes(usize),
     Refused(u32),
 }
 
+// What the repeat call answers.
 pub enum Repeat {
     Yes,
     No,
@@ -58,6 +60,7 @@ fn trailer_fields(store: &[u8]) -> Fields
     }
 }
 
+// The distance back, as the trailer has it.
 fn distance_back(store: &[u8]) -> usize
     requires { ⌜ 12 ≤ length (now store) ⌝ }
     ensures { λ r. ⌜ r ≡ distance-in (now (store .entry)) ⌝ }
@@ -100,7 +103,7 @@ fn store_refusal(store: &[u8]) -> u32
 }
 
 // The part that holds the samples, by the distance back.
-fn sample_bytes(store: &[u8]) -> &[u8]
+fn sample_part(store: &[u8]) -> &[u8]
     requires { ⌜ ask (store-questions (now store)) ≡ 0 ⌝ }
     ensures { λ r. ⌜ now r ≡ sample-part (now (store .entry)) ⌝ }
 {
@@ -114,7 +117,7 @@ fn samples_refusal(store: &[u8]) -> u32
     requires { ⌜ ask (store-questions (now store)) ≡ 0 ⌝ }
     ensures { λ r. ⌜ r ≡ ask (samples-question ceiling (samples-of (now (store .entry))) ∷ []) ⌝ }
 {
-    if little_endian::samples_within(4095, sample_bytes(store)) {
+    if little_endian::samples_within(4095, sample_part(store)) {
         0
     } else {
         9
@@ -150,7 +153,7 @@ pub fn packet_samples(store: &[u8]) -> &[u8]
     if packet_refusal(store) != 0 {
         return &store[0..0];
     }
-    sample_bytes(store)
+    sample_part(store)
 }
 
 // Questions 11, 1, 2, 3, 4, 5, 12, 13, 7 and 9.
@@ -177,12 +180,13 @@ pub fn read_mosaic(store: &[u8], mosaic: &mut [u16]) -> ReadPacket
     if number != 0 {
         return ReadPacket::Refused(number);
     }
-    little_endian::read_samples(sample_bytes(store), mosaic);
+    little_endian::read_samples(sample_part(store), mosaic);
     ReadPacket::Sound(trailer_fields(store))
 }
 
 // ---- the writer
 
+// The trailer, into `out` from `at` on; `back` is the distance back.
 fn put_trailer(f: Fields, back: usize, out: &mut [u8], at: usize)
     requires { ⌜ at + 12 ≤ length (now out) ⌝ }
     requires { ⌜ back ≡ distance f ⌝ }
@@ -228,15 +232,17 @@ pub fn write_packet(f: Fields, samples: &[u16], out: &mut [u8]) -> WrittenPacket
         return WrittenPacket::Refused(number);
     }
     let at = 2 * samples.len();
+    let written = at + 12;
     little_endian::write_samples(samples, out);
-    put_trailer(f, at + 12, out, at);
-    WrittenPacket::Bytes(at + 12)
+    put_trailer(f, written, out, at);
+    WrittenPacket::Bytes(written)
 }
 
 // ---- the repeat call
 
+// Whether width, height and layout agree.
 fn same_shape(f: Fields, g: Fields) -> bool
-    ensures { λ r. ⌜ r ≡ same-frame f g ⌝ }
+    ensures { λ r. ⌜ r ≡ same-shape f g ⌝ }
 {
     if f.width != g.width {
         return false;
@@ -269,7 +275,7 @@ pub fn repeats_packet(a: &[u8], b: &[u8]) -> Repeat
     if !same_shape(trailer_fields(a), trailer_fields(b)) {
         return Repeat::No;
     }
-    if little_endian::same_samples(sample_bytes(a), sample_bytes(b)) {
+    if little_endian::same_samples(sample_part(a), sample_part(b)) {
         Repeat::Yes
     } else {
         Repeat::No

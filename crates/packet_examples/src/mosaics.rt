@@ -18,11 +18,11 @@ fn show(store: &[u8], mosaic: &mut [u16]) {
 }
 
 // Into a mosaic of so many samples.
-fn example(store: &[u8], length: usize)
-    requires { ⌜ length ≤ 5 ⌝ }
+fn example(store: &[u8], room: usize)
+    requires { ⌜ room ≤ 5 ⌝ }
 {
     let mut mosaic = [9u16; 5];
-    show(store, &mut mosaic[0..length]);
+    show(store, &mut mosaic[0..room]);
 }
 
 // Where the mosaic's size and a sample are both wrong, the size is refused.

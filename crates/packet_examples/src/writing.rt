@@ -22,12 +22,12 @@ fn show(f: Fields, samples: &[u16], out: &mut [u8]) {
 }
 
 // Six samples, of which the last is given, into a buffer of so many bytes.
-fn example(f: Fields, last: u16, length: usize)
-    requires { ⌜ length ≤ 26 ⌝ }
+fn example(f: Fields, last: u16, room: usize)
+    requires { ⌜ room ≤ 26 ⌝ }
 {
     let samples = [0, 1, 255, 256, 4094, last];
     let mut out = [255u8; 26];
-    show(f, &samples, &mut out[0..length]);
+    show(f, &samples, &mut out[0..room]);
 }
 
 fn fields(width: usize, height: usize, layout: u8, rounds: u8, threshold: u16) -> Fields {

@@ -26,13 +26,13 @@ returns c =
 known : (c : tie.Else1) → SoundPacket (now (c .before .before .before .args .store))
 known c = sound (now (c .before .before .before .args .store)) _ (c .before .packet-refusal .ensures) (c .if1 .left)
 
-sample-bytes-requires : tie.Need-sample-bytes-requires
-sample-bytes-requires c κs = known c .at .asked
+sample-part-requires : tie.Need-sample-part-requires
+sample-part-requires c κs = known c .at .asked
 
 returns-2 : tie.Need-returns-2
 returns-2 c =
     let e = c .before in
-    part-yes (now (e .before .before .before .args .store)) _ (e .before .packet-refusal .ensures) (e .if1 .left) _ (c .sample-bytes .ensures)
+    part-yes (now (e .before .before .before .args .store)) _ (e .before .packet-refusal .ensures) (e .if1 .left) _ (c .sample-part .ensures)
 
 pub packet-samples-spec : {M : Type 1} → statement M
 packet-samples-spec =
@@ -43,5 +43,5 @@ packet-samples-spec =
     part-result-start
     part-result-end
     returns
-    sample-bytes-requires
+    sample-part-requires
     returns-2)

@@ -23,14 +23,14 @@ known c =
     let a = c .before .before .before .before .args in
     filling (now (a .store)) (length (now (a .mosaic))) _ (c .before .mosaic-refusal .ensures) (c .if1 .left)
 
-sample-bytes-requires : tie.Need-sample-bytes-requires
-sample-bytes-requires c κs = known c .at .asked
+sample-part-requires : tie.Need-sample-part-requires
+sample-part-requires c κs = known c .at .asked
 
 read-samples-requires : tie.Need-read-samples-requires
 read-samples-requires c κs =
     let e = c .before .before in
     let k = known e in
-    ap length (c .before .sample-bytes .ensures) ∙ length-part (now (e .before .before .before .before .args .store)) (k .at) ∙ ap (λ (n : ℕ). 2 * n) (sym (k .fit))
+    ap length (c .before .sample-part .ensures) ∙ length-part (now (e .before .before .before .before .args .store)) (k .at) ∙ ap (λ (n : ℕ). 2 * n) (sym (k .fit))
 
 trailer-fields-requires : tie.Need-trailer-fields-requires
 trailer-fields-requires c κs = known (c .before .before .before .before .before) .at .long
@@ -43,7 +43,7 @@ returns-2 c =
     let e = c .before .before .before .before .before .before in
     let a = e .before .before .before .before .args in
     mosaic-yes (now (a .store)) (now (a .mosaic)) _ (e .before .mosaic-refusal .ensures) (e .if1 .left) _ (c .trailer-fields .ensures)
-    (c .before .before .before .read-samples .ensures ∙ ap samples-in (c .before .before .before .before .before .sample-bytes .ensures))
+    (c .before .before .before .read-samples .ensures ∙ ap samples-in (c .before .before .before .before .before .sample-part .ensures))
 
 pub read-mosaic-spec : {M : Type 1} → statement M
 read-mosaic-spec =
@@ -51,7 +51,7 @@ read-mosaic-spec =
     (tie.spec
     mosaic-refusal-requires
     returns
-    sample-bytes-requires
+    sample-part-requires
     read-samples-requires
     trailer-fields-requires
     same-length

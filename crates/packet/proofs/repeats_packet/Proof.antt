@@ -8,7 +8,7 @@ use denote.Ref.{now}
 use Rattle.integers.proofs.Tests.{not-is}
 use Rattle.packet.specs.Packet.{repeats}
 use Rattle.packet.proofs.Stores.{SoundPacket, length-part}
-use Rattle.packet.proofs.Repeating.{sound-both, same-fields, other-frame, samples-decide, repeat-no, repeat-yes}
+use Rattle.packet.proofs.Repeating.{sound-both, same-fields, other-shape, samples-decide, repeat-no, repeat-yes}
 use borrow.Author.Needs.{needs}
 use Rattle.packet.proofs.repeats_packet.Statement.{statement}
 use Rattle.packet.proofs.repeats_packet.Tie as tie
@@ -41,13 +41,13 @@ returns-2 c =
     let e = s .before .before .before in
     let a = e .before .before .before .before .args in
     repeat-yes (now (a .a)) (now (a .b)) _ (e .before .repeat-refusal .ensures) (e .if1 .left) false
-    (other-frame (now (a .a)) (now (a .b)) _ _ (s .before .before .trailer-fields .ensures) (s .before .trailer-fields2 .ensures) _ (s .same-shape .ensures) (not-is (s .same-shape .result) true (c .if2 .taken)))
+    (other-shape (now (a .a)) (now (a .b)) _ _ (s .before .before .trailer-fields .ensures) (s .before .trailer-fields2 .ensures) _ (s .same-shape .ensures) (not-is (s .same-shape .result) true (c .if2 .taken)))
 
-sample-bytes-requires : tie.Need-sample-bytes-requires
-sample-bytes-requires c κs = known (c .before .before .before .before) .0 .at .asked
+sample-part-requires : tie.Need-sample-part-requires
+sample-part-requires c κs = known (c .before .before .before .before) .0 .at .asked
 
-sample-bytes-requires-2 : tie.Need-sample-bytes-requires-2
-sample-bytes-requires-2 c κs = known (c .before .before .before .before .before) .1 .at .asked
+sample-part-requires-2 : tie.Need-sample-part-requires-2
+sample-part-requires-2 c κs = known (c .before .before .before .before .before) .1 .at .asked
 
 same-samples-requires : tie.Need-same-samples-requires
 same-samples-requires c κs =
@@ -56,9 +56,9 @@ same-samples-requires c κs =
     let k = known (s .before .before .before) in
     let a = s .before .before .before .before .before .before .before .args in
     let f = same-fields (now (a .a)) (now (a .b)) _ _ (s .before .before .trailer-fields .ensures) (s .before .trailer-fields2 .ensures) _ (s .same-shape .ensures) (not-is (s .same-shape .result) false (t .if2 .left)) in
-    ap length (c .before .sample-bytes .ensures) ∙ length-part (now (a .a)) (k .0 .at)
+    ap length (c .before .sample-part .ensures) ∙ length-part (now (a .a)) (k .0 .at)
     ∙ (λ j. 2 * (f .width j * f .height j))
-    ∙ sym (ap length (c .sample-bytes2 .ensures) ∙ length-part (now (a .b)) (k .1 .at))
+    ∙ sym (ap length (c .sample-part2 .ensures) ∙ length-part (now (a .b)) (k .1 .at))
 
 -- whether the packets repeat, as the comparison answers it
 decided : (c : tie.After-same-samples) → let a = c .before .before .before .before .before .before .before .before .before .before .before .args in c .same-samples .result ≡ repeats (now (a .a)) (now (a .b))
@@ -66,7 +66,7 @@ decided c =
     let t = c .before .before .before in
     let s = t .before in
     let a = s .before .before .before .before .before .before .before .args in
-    samples-decide (now (a .a)) (now (a .b)) _ _ (s .before .before .trailer-fields .ensures) (s .before .trailer-fields2 .ensures) _ (s .same-shape .ensures) (not-is (s .same-shape .result) false (t .if2 .left)) _ _ (c .before .before .sample-bytes .ensures) (c .before .sample-bytes2 .ensures) _ (c .same-samples .ensures)
+    samples-decide (now (a .a)) (now (a .b)) _ _ (s .before .before .trailer-fields .ensures) (s .before .trailer-fields2 .ensures) _ (s .same-shape .ensures) (not-is (s .same-shape .result) false (t .if2 .left)) _ _ (c .before .before .sample-part .ensures) (c .before .sample-part2 .ensures) _ (c .same-samples .ensures)
 
 returns-3 : tie.Need-returns-3
 returns-3 c =
@@ -90,8 +90,8 @@ repeats-packet-spec =
     trailer-fields-requires-2
     same-shape-requires
     returns-2
-    sample-bytes-requires
-    sample-bytes-requires-2
+    sample-part-requires
+    sample-part-requires-2
     same-samples-requires
     returns-3
     returns-4)

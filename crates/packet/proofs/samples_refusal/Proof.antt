@@ -12,15 +12,15 @@ use borrow.Author.Needs.{needs}
 use Rattle.packet.proofs.samples_refusal.Statement.{statement}
 use Rattle.packet.proofs.samples_refusal.Tie as tie
 
-sample-bytes-requires : tie.Need-sample-bytes-requires
-sample-bytes-requires c κs = search needs
+sample-part-requires : tie.Need-sample-part-requires
+sample-part-requires c κs = search needs
 
 samples-within-requires : tie.Need-samples-within-requires
 samples-within-requires c κs = search needs
 
 -- what the scan says of the store
 scanned : (c : tie.After-samples-within) → c .samples-within .result ≡ all-at-most ceiling (samples-of (now (c .before .before .before .args .store)))
-scanned c = c .samples-within .ensures ∙ ap (λ (l : List ℕ). all-at-most ceiling (samples-in l)) (c .before .sample-bytes .ensures)
+scanned c = c .samples-within .ensures ∙ ap (λ (l : List ℕ). all-at-most ceiling (samples-in l)) (c .before .sample-part .ensures)
 
 returns : tie.Need-returns
 returns c = ask-yes _ _ _ _ (sym (scanned (c .before)) ∙ c .if1 .taken) ask-end
@@ -30,4 +30,4 @@ returns-2 c = ask-no _ _ _ (sym (scanned (c .before)) ∙ c .if1 .left)
 
 pub samples-refusal-spec : {M : Type 1} → statement M
 samples-refusal-spec =
-    tie.close (tie.spec sample-bytes-requires samples-within-requires returns returns-2)
+    tie.close (tie.spec sample-part-requires samples-within-requires returns returns-2)

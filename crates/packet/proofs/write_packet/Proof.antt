@@ -25,20 +25,17 @@ known c =
 mul-at : tie.Need-mul-at
 mul-at c = search needs
 
+add-written : tie.Need-add-written
+add-written c = search needs
+
 write-samples-requires : tie.Need-write-samples-requires
 write-samples-requires c κs = let k = known (c .before) in omega (arith, k .given, k .fit)
-
-add-put-trailer : tie.Need-add-put-trailer
-add-put-trailer c = search needs
 
 put-trailer-requires : tie.Need-put-trailer-requires
 put-trailer-requires c κs =
     let w = c .before .before .before in
     let k = known (w .before .before) in
     (omega (arith, k .given, k .fit, w .write-samples .kept .1 .0), omega (arith, k .given))
-
-add-t6 : tie.Need-add-t6
-add-t6 c = search needs
 
 same-length : tie.Need-same-length
 same-length c = search needs
@@ -58,9 +55,8 @@ write-packet-spec =
     write-refusal-requires
     returns
     mul-at
+    add-written
     write-samples-requires
-    add-put-trailer
     put-trailer-requires
-    add-t6
     same-length
     returns-2)

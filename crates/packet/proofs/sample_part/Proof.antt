@@ -1,12 +1,12 @@
--- `packet::sample_bytes` meets its contract.
+-- `packet::sample_part` meets its contract.
 -- Assumes nothing.
 use mathlib.Core.Path.{refl, sym}
 use native.Mathlib.Omega.{arith}
 use denote.Ref.{now}
 use Rattle.packet.proofs.Stores.{Located, located, part-is}
 use borrow.Author.Needs.{needs}
-use Rattle.packet.proofs.sample_bytes.Statement.{statement}
-use Rattle.packet.proofs.sample_bytes.Tie as tie
+use Rattle.packet.proofs.sample_part.Statement.{statement}
+use Rattle.packet.proofs.sample_part.Tie as tie
 
 known : (c : tie.After-shared-slice-known) → Located (now (c .before .args .store))
 known c = located (now (c .before .args .store)) 0 (sym (c .before .pre)) refl
@@ -32,8 +32,8 @@ part-result-end c = search needs
 returns : tie.Need-returns
 returns c = part-is _ _ (c .before .trailer-place .ensures) _ (c .before .before .distance-back .ensures)
 
-pub sample-bytes-spec : {M : Type 1} → statement M
-sample-bytes-spec =
+pub sample-part-spec : {M : Type 1} → statement M
+sample-part-spec =
     tie.close
     (tie.spec
     distance-back-requires
