@@ -11,20 +11,23 @@ use lib.ListN.{length, getD, take, drop, set, length-take, List·getD-eq-default
 use lib.Seq.{drop-cons, getD-take, getD-drop, sets}
 use Rattle.little_endian.specs.Bytes.{bytes-of, number-at}
 
--- every element is a byte
-pub record Bytes (l : List ℕ) : Type 0 where
-  pub small : (k : ℕ) → getD l k 0 < 256
+-- every element is below n; 0 stands for those outside
+pub record Below (n : ℕ) (l : List ℕ) : Type 0 where
+  pub at : (k : ℕ) → getD l k 0 < n
 
--- as is every element of a part
-pub bytes-take : (n : ℕ) (l : List ℕ) → Bytes l → Bytes (take n l)
-bytes-take n l b = record { small = λ k. either k (decLt k n) }
+-- by what holds inside
+pub below-by : (n : ℕ) (l : List ℕ) → 0 < n → ((k : ℕ) → k < length l → getD l k 0 < n) → Below n l
+below-by n l h f = record { at = λ k. either k (decLt k (length l)) }
   where
-    either : (k : ℕ) → Dec (k < n) → getD (take n l) k 0 < 256
-    either k (yes h) = omega (arith, getD-take n l k 0 h, b .small k)
-    either k (no h) = omega (arith, List·getD-eq-default (take n l) 0 {n = k} (omega (arith, length-take n l)))
+    either : (k : ℕ) → Dec (k < length l) → getD l k 0 < n
+    either k (yes i) = f k i
+    either k (no i) = omega (arith, List·getD-eq-default l 0 {n = k} (omega arith))
 
-pub bytes-drop : (n : ℕ) (l : List ℕ) → Bytes l → Bytes (drop n l)
-bytes-drop n l b = record { small = λ k. omega (arith, getD-drop n l k 0, b .small (n + k)) }
+pub below-take : (n m : ℕ) (l : List ℕ) → 0 < n → Below n l → Below n (take m l)
+below-take n m l h b = below-by n (take m l) h (λ k i. omega (arith, getD-take m l k 0 (omega (arith, length-take m l)), b .at k))
+
+pub below-drop : (n m : ℕ) (l : List ℕ) → Below n l → Below n (drop m l)
+below-drop n m l b = record { at = λ k. omega (arith, getD-drop m l k 0, b .at (m + k)) }
 
 -- ---- a number is seen from where it stands
 pub number-at-drop : (n : ℕ) (l : List ℕ) (i j : ℕ) → number-at n l (i + j) ≡ number-at n (drop i l) j
@@ -59,7 +62,7 @@ number-of-bytes (suc n) x l h =
     ap (λ (r : ℕ). x % 256 + 256 * r) (number-at-cons n (x % 256) (bytes-of n (x / 256) ++ l) 0 ∙ number-of-bytes n (x / 256) l (div-lt-iff-lt-mul (zero-lt-suc 255) .1 (subst (λ (m : ℕ). x < m) (pow-suc 256 n) h)))
     ∙ omega arith
 
-pub bytes-of-number : (n : ℕ) (l : List ℕ) (i : ℕ) → Bytes l → i + n ≤ length l → bytes-of n (number-at n l i) ≡ take n (drop i l)
+pub bytes-of-number : (n : ℕ) (l : List ℕ) (i : ℕ) → Below 256 l → i + n ≤ length l → bytes-of n (number-at n l i) ≡ take n (drop i l)
 unfolding number-at bytes-of
 bytes-of-number zero l i b h = refl
 bytes-of-number (suc n) l i b h =
@@ -71,10 +74,10 @@ bytes-of-number (suc n) l i b h =
     rest = number-at n l (i + 1)
 
     low : (getD l i 0 + 256 * rest) % 256 ≡ getD l i 0
-    low = omega (arith, b .small i)
+    low = omega (arith, b .at i)
 
     high : (getD l i 0 + 256 * rest) / 256 ≡ rest
-    high = omega (arith, b .small i)
+    high = omega (arith, b .at i)
 
 -- ---- the loop that stores a number's bytes: the n - k that are left, of what is left of the number
 pub put-none : (out : List ℕ) (at n x : ℕ) → sets out (at + 0) (bytes-of (n - 0) x) ≡ sets out at (bytes-of n x)

@@ -11,7 +11,7 @@ use lib.Seq.{drop-cons, sets}
 use Rattle.integers.specs.Lists.{tabulate, overwrite, same-list}
 use Rattle.integers.proofs.Lists.{length-tabulate, getD-tabulate, tabulate-cons, tabulate-cong, overwrite-all, same-list-yes, same-list-no}
 use Rattle.little_endian.specs.Bytes.{bytes-of, number-at, sample-bytes, sample-at, samples-in}
-use Rattle.little_endian.proofs.Bytes.{Bytes, number-at-cons}
+use Rattle.little_endian.proofs.Bytes.{Below, number-at-cons}
 
 -- ---- lengths
 pub length-sample-bytes : (s : List ℕ) → length (sample-bytes s) ≡ 2 * length s
@@ -43,33 +43,29 @@ samples-in-none : samples-in [] ≡ []
 unfolding samples-in tabulate
 samples-in-none = refl
 
--- each sample fits two bytes
-pub record Samples (s : List ℕ) : Type 0 where
-  pub small : (k : ℕ) → getD s k 0 < 65536
-
-pub samples-of-bytes : (s : List ℕ) → Samples s → samples-in (sample-bytes s) ≡ s
+pub samples-of-bytes : (s : List ℕ) → Below 65536 s → samples-in (sample-bytes s) ≡ s
 unfolding sample-bytes bytes-of
 samples-of-bytes [] h = samples-in-none
 samples-of-bytes (x ∷ xs) h =
-    samples-in-cons (x % 256) (x / 256 % 256) (sample-bytes xs) ∙ (λ j. whole j ∷ samples-of-bytes xs (record { small = λ k. h .small (suc k) }) j)
+    samples-in-cons (x % 256) (x / 256 % 256) (sample-bytes xs) ∙ (λ j. whole j ∷ samples-of-bytes xs (record { at = λ k. h .at (suc k) }) j)
   where
     whole : x % 256 + 256 * (x / 256 % 256) ≡ x
-    whole = omega (arith, h .small 0)
+    whole = omega (arith, h .at 0)
 
-pub bytes-of-samples : (l : List ℕ) (n : ℕ) → length l ≡ 2 * n → Bytes l → sample-bytes (samples-in l) ≡ l
+pub bytes-of-samples : (l : List ℕ) (n : ℕ) → length l ≡ 2 * n → Below 256 l → sample-bytes (samples-in l) ≡ l
 unfolding sample-bytes bytes-of
 bytes-of-samples [] n e b = ap sample-bytes samples-in-none
 bytes-of-samples (x ∷ []) n e b = absurd (omega arith)
 bytes-of-samples (x ∷ y ∷ l) zero e b = absurd (omega arith)
 bytes-of-samples (x ∷ y ∷ l) (suc n) e b =
     ap sample-bytes (samples-in-cons x y l)
-    ∙ (λ j. low j ∷ high j ∷ bytes-of-samples l n (omega arith) (record { small = λ k. b .small (suc (suc k)) }) j)
+    ∙ (λ j. low j ∷ high j ∷ bytes-of-samples l n (omega arith) (record { at = λ k. b .at (suc (suc k)) }) j)
   where
     low : (x + 256 * y) % 256 ≡ x
-    low = omega (arith, b .small 0)
+    low = omega (arith, b .at 0)
 
     high : (x + 256 * y) / 256 % 256 ≡ y
-    high = omega (arith, b .small 0, b .small 1)
+    high = omega (arith, b .at 0, b .at 1)
 
 -- ---- the loop that writes: the samples that are left
 pub write-step : (x s : List ℕ) (k : ℕ) {y : List ℕ} → k < length s → y ≡ sets x (2 * k) (bytes-of 2 (getD s k 0))

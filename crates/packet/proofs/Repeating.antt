@@ -82,18 +82,21 @@ sound-both a b n e z =
     (sound-by a (y .0), sound-by b (y .1))
 
 module _ (a b : List ℕ) (f g : Fields) (p : f ≡ fields-of a) (q : g ≡ fields-of b) (x : Bool) (e : x ≡ same-shape f g) where
+  compared : (v : Bool) → x ≡ v → v ≡ same-shape (fields-of a) (fields-of b)
+  compared v z = sym z ∙ e ∙ λ k. same-shape (p k) (q k)
+
   pub other-shape : x ≡ false → false ≡ repeats a b
   unfolding repeats
-  other-shape z = λ j. (sym z ∙ e ∙ λ k. same-shape (p k) (q k)) j && same-list (samples-of a) (samples-of b)
+  other-shape z = λ j. compared false z j && same-list (samples-of a) (samples-of b)
 
   pub same-fields : x ≡ true → SameShape (fields-of a) (fields-of b)
-  same-fields z = same-shape-is (fields-of a) (fields-of b) (sym (sym z ∙ e ∙ λ k. same-shape (p k) (q k)))
+  same-fields z = same-shape-is (fields-of a) (fields-of b) (sym (compared true z))
 
   -- the samples decide, which stand in the parts s and t
   pub samples-decide : x ≡ true → (s t : List ℕ) → s ≡ sample-part a → t ≡ sample-part b → (y : Bool) → y ≡ same-list (samples-in s) (samples-in t) → y ≡ repeats a b
   unfolding repeats
   samples-decide z s t u v y r =
-      λ j. (sym z ∙ e ∙ λ k. same-shape (p k) (q k)) j && (r ∙ λ k. same-list (samples-in (u k)) (samples-in (v k))) j
+      λ j. compared true z j && (r ∙ λ k. same-list (samples-in (u k)) (samples-in (v k))) j
 
 module _ (a b : List ℕ) (n : ℕ) (e : n ≡ ask (repeat-questions a b)) where
   pub repeat-no : (n ≡ 0 → ⊥) → RepeatResult a b (Refused n)

@@ -4,38 +4,32 @@ use Prim.Native.Nat.{ℕ, _+_, _*_, _-_, _^_, _≤_, _<_}
 use mathlib.Core.Path.{_≡_, refl, sym, ap, _∙_, subst}
 use mathlib.Core.Bool.{true}
 use mathlib.Core.List.{List, [], _∷_, _++_, append-assoc, append-nil}
-use native.Mathlib.Decide.{decLt}
 use native.Mathlib.Nat.{add-zero}
 use native.Mathlib.Omega.{arith}
-use lib.Dec.{eqb}
-use lib.ListN.{length, getD, take, drop, length-append, take-append-drop, List·getD-eq-default, drop-of-length-le}
+use lib.ListN.{length, take, drop, length-append, take-append-drop, drop-of-length-le}
 use lib.Seq.{take-at, drop-at, drop-drop}
 use borrow.Author.Tests.{le-leb, eq-eqb}
 use Rattle.integers.proofs.Tests.{true-is}
-use Rattle.questions.specs.Questions.{Question, question, ask, all-at-most, ceiling, samples-question}
+use Rattle.questions.specs.Questions.{Question, ask, all-at-most, ceiling, samples-question}
 use Rattle.questions.specs.Answers.{if-accepted}
 use Rattle.questions.proofs.Asking.{AllYes, all-yes-both, ask-zero, all-at-most-at}
 use Rattle.questions.proofs.Answering.{left-yes}
 use Rattle.little_endian.specs.Bytes.{bytes-of, number-at, sample-bytes, samples-in}
-use Rattle.little_endian.proofs.Bytes.{Bytes, bytes-take, bytes-drop, number-at-drop, number-of-bytes, bytes-of-number}
-use Rattle.little_endian.proofs.Samples.{Samples, length-sample-bytes, length-samples-in, samples-of-bytes, bytes-of-samples}
+use Rattle.little_endian.proofs.Bytes.{Below, below-by, below-take, below-drop, number-at-drop, number-of-bytes, bytes-of-number}
+use Rattle.little_endian.proofs.Samples.{length-sample-bytes, length-samples-in, samples-of-bytes, bytes-of-samples}
 use Rattle.packet.specs.Packet.{distance, trailer, packet, trailer-place, fields-of, distance-in, first-place, sample-part, samples-of}
-use Rattle.packet.specs.Calls.{fields-questions, distance-questions, store-questions, read-questions, mosaic-questions, write-questions, number-of-written, ReadResult, part-read, MosaicResult, WriteResult}
+use Rattle.packet.specs.Calls.{fields-questions, distance-questions, store-questions, read-questions, filling-questions, mosaic-questions, writing-questions, write-questions, number-of-written, ReadResult, part-read, MosaicResult, WriteResult}
 use Rattle.packet.specs.declared.Fields.{Fields}
 use Rattle.packet.specs.declared.ReadPacket.{ReadPacket}
 use Rattle.packet.specs.declared.ReadPacket.the-variants.{Sound, Refused}
 use Rattle.packet.specs.declared.WrittenPacket.{WrittenPacket}
-use Rattle.packet.specs.declared.WrittenPacket.the-variants.{Bytes as Bytes-written}
+use Rattle.packet.specs.declared.WrittenPacket.the-variants.{Bytes}
 use Rattle.packet.proofs.Stores.{SoundPacket, sound, filling, length-part}
-use Rattle.packet.proofs.Writing.{Writable, writable, later-questions, length-packet}
+use Rattle.packet.proofs.Writing.{Writable, writable, length-packet}
 
 -- samples at most the ceiling fit two bytes
-fit-two-bytes : (s : List ℕ) → all-at-most ceiling s ≡ true → Samples s
-fit-two-bytes s e = record { small = λ k. either k (decLt k (length s)) }
-  where
-    either : (k : ℕ) → Dec (k < length s) → getD s k 0 < 65536
-    either k (yes h) = omega (arith, all-at-most-at ceiling s (true-is e) k h)
-    either k (no h) = omega (arith, List·getD-eq-default s 0 {n = k} (omega arith))
+fit-two-bytes : (s : List ℕ) → all-at-most ceiling s ≡ true → Below 65536 s
+fit-two-bytes s e = below-by 65536 s (omega arith) (λ k h. omega (arith, all-at-most-at ceiling s (true-is e) k h))
 
 -- ---- written, then read
 -- a store: older bytes, and then a packet that the writer accepts
@@ -135,7 +129,7 @@ written-reads-back older f s room z =
 
 -- ---- read, then written again
 -- a store whose packet is sound
-module _ (s : List ℕ) (k : SoundPacket s) (b : Bytes s) where
+module _ (s : List ℕ) (k : SoundPacket s) (b : Below 256 s) where
   -- a number's bytes, from place i of the store on, and what comes after them
   piece : (n i x m : ℕ) {l : List ℕ} → x ≡ number-at n s i → m ≡ i + n → m ≤ length s → l ≡ drop m s → bytes-of n x ++ l ≡ drop i s
   piece n i x m e p h r =
@@ -155,9 +149,9 @@ module _ (s : List ℕ) (k : SoundPacket s) (b : Bytes s) where
       (sym (append-nil (bytes-of 4 (distance (fields-of s))))
       ∙ piece 4 (t + 8) (distance (fields-of s)) (t + 12) (sym (k .at .back)) (omega arith) (omega (arith, end)) (sym (drop-of-length-le s {i = t + 12} (omega (arith, end)))))))))
 
-  part-bytes : Bytes (sample-part s)
+  part-bytes : Below 256 (sample-part s)
   unfolding sample-part
-  part-bytes = bytes-take (trailer-place s - first-place s) (drop (first-place s) s) (bytes-drop (first-place s) s b)
+  part-bytes = below-take 256 (trailer-place s - first-place s) (drop (first-place s) s) (omega arith) (below-drop 256 (first-place s) s b)
 
   samples-again : sample-bytes (samples-of s) ≡ sample-part s
   samples-again = bytes-of-samples (sample-part s) (fields-of s .width * fields-of s .height) (length-part s (k .at)) part-bytes
@@ -179,7 +173,7 @@ module _ (s : List ℕ) (k : SoundPacket s) (b : Bytes s) where
   accepted-again room h =
       let f = fields-of s in
       ask-zero (write-questions f (samples-of s) room)
-      (all-yes-both (fields-questions f) (later-questions f (samples-of s) (all-at-most ceiling (samples-of s)) room) (k .at .fields .answers)
+      (all-yes-both (fields-questions f) (writing-questions f (samples-of s) room) (k .at .fields .answers)
       (eq-eqb (length (samples-of s)) (f .width * f .height) (length-samples-in (sample-part s) (f .width * f .height) (length-part s (k .at))), (k .small, (le-leb (distance f) room h, tt))))
 
 -- ---- the calls, one after another
@@ -189,7 +183,7 @@ left qs new old z = sym (left-yes qs new old (ask qs) refl z)
 
 -- The writer accepted a frame: it answered the packet's length, and those first bytes, behind any older ones, are read as that frame.
 pub write-then-read : (f : Fields) (s before after : List ℕ) (w : WrittenPacket) → WriteResult f s before w after → number-of-written w ≡ 0
-    → (w ≡ Bytes-written (distance f)) × ((older : List ℕ) → Reads (older ++ take (distance f) after) f s)
+    → (w ≡ Bytes (distance f)) × ((older : List ℕ) → Reads (older ++ take (distance f) after) f s)
 write-then-read f s before after w result z = (result .answer .accepted yes, λ older. subst (λ (l : List ℕ). Reads (older ++ l) f s) (sym first) (written-reads-back older f s (length before) yes))
   where
     qs : List Question
@@ -226,7 +220,7 @@ module _ (store : List ℕ) (f : Fields) (s : List ℕ) (h : Reads store f s) wh
       yes : ask (mosaic-questions store (length before)) ≡ 0
       yes =
           ask-zero (mosaic-questions store (length before))
-          (all-yes-both (store-questions store) (question 7 (eqb (length before) (fields-of store .width * fields-of store .height)) ∷ samples-question ceiling (samples-of store) ∷ []) (k .at .answers) (eq-eqb _ _ area, (k .small, tt)))
+          (all-yes-both (store-questions store) (filling-questions (fields-of store) (samples-of store) (length before)) (k .at .answers) (eq-eqb _ _ area, (k .small, tt)))
 
 -- the fields of a sound packet's answer
 abbrev fields-or : Fields → ReadPacket → Fields
@@ -235,9 +229,9 @@ fields-or f (Refused n) = f
 
 -- A packet was read into a mosaic, and its fields and the mosaic are written into a buffer that is long enough: the buffer
 -- begins with the very bytes of the packet.
-pub read-then-write : (store : List ℕ) → Bytes store → (f : Fields) (mosaic samples : List ℕ) → MosaicResult store mosaic (Sound f) samples
+pub read-then-write : (store : List ℕ) → Below 256 store → (f : Fields) (mosaic samples : List ℕ) → MosaicResult store mosaic (Sound f) samples
     → (before after : List ℕ) (w : WrittenPacket) → distance f ≤ length before → WriteResult f samples before w after
-    → (w ≡ Bytes-written (distance f)) × (after ≡ drop (first-place store) store ++ drop (distance f) before)
+    → (w ≡ Bytes (distance f)) × (after ≡ drop (first-place store) store ++ drop (distance f) before)
 read-then-write store b f mosaic samples read before after w h result = (
   result .answer .accepted yes,
   result .buffer ∙ left qs (packet f samples ++ drop (distance f) before) before yes
@@ -248,7 +242,7 @@ read-then-write store b f mosaic samples read before after w h result = (
     accepted = sym (read .answer .number)
 
     k : SoundPacket store
-    k = let p = filling store (length mosaic) 0 (sym accepted) refl in record { at = p .at; small = p .small }
+    k = filling store (length mosaic) 0 (sym accepted) refl .packet
 
     fields : f ≡ fields-of store
     fields = ap (fields-or f) (read .answer .accepted accepted)

@@ -5,16 +5,16 @@ use mathlib.Core.Bool.{true}
 use mathlib.Core.List.{List, [], _∷_}
 use native.Mathlib.Nat.{add-zero}
 use native.Mathlib.Omega.{arith}
-use lib.Dec.{leb, eqb}
+use lib.Dec.{leb}
 use lib.ListN.{length, getD, take, drop, length-drop}
 use lib.Seq.{length-take-le}
 use borrow.Author.Tests.{le-leb, leb-true, eqb-true}
-use Rattle.questions.specs.Questions.{question, ask, all-at-most, ceiling, shape-questions, settings-questions, samples-question}
+use Rattle.questions.specs.Questions.{ask, all-at-most, ceiling, shape-questions, settings-questions, samples-question}
 use Rattle.questions.proofs.Asking.{AllYes, all-yes, all-yes-split, Shape, shape-is, ask-yes, ask-zero, ask-first, ask-later}
 use Rattle.questions.proofs.Answering.{answer-no, answer-yes, left-no, left-yes}
 use Rattle.little_endian.specs.Bytes.{number-at}
 use Rattle.packet.specs.Packet.{distance, trailer-place, fields-of, distance-in, first-place, sample-part, samples-of}
-use Rattle.packet.specs.Calls.{fields-questions, distance-questions, store-questions, read-questions, mosaic-questions, number-of-read, ReadResult, part-read, MosaicResult}
+use Rattle.packet.specs.Calls.{fields-questions, distance-questions, store-questions, read-questions, filling-questions, mosaic-questions, number-of-read, ReadResult, part-read, MosaicResult}
 use Rattle.packet.specs.declared.Fields.{Fields}
 use Rattle.packet.specs.declared.ReadPacket.the-variants.{Sound, Refused}
 
@@ -74,15 +74,15 @@ sound-by s y =
 pub sound : (s : List ℕ) (n : ℕ) → n ≡ ask (read-questions s) → n ≡ 0 → SoundPacket s
 sound s n e z = sound-by s (all-yes (read-questions s) tt n e z)
 
+-- a sound packet, and a mosaic of just its number of samples
 pub record FillingPacket (s : List ℕ) (room : ℕ) : Type 0 where
-  pub at : Located s
+  pub packet : SoundPacket s
   pub fit : room ≡ fields-of s .width * fields-of s .height
-  pub small : all-at-most ceiling (samples-of s) ≡ true
 
 pub filling : (s : List ℕ) (room n : ℕ) → n ≡ ask (mosaic-questions s room) → n ≡ 0 → FillingPacket s room
 filling s room n e z =
-    let p = all-yes-split (store-questions s) (question 7 (eqb room (fields-of s .width * fields-of s .height)) ∷ samples-question ceiling (samples-of s) ∷ []) (all-yes (mosaic-questions s room) tt n e z) in
-    record { at = located-by s (p .0); fit = eqb-true room _ (p .1 .0); small = p .1 .1 .0 }
+    let p = all-yes-split (store-questions s) (filling-questions (fields-of s) (samples-of s) room) (all-yes (mosaic-questions s room) tt n e z) in
+    record { packet = record { at = located-by s (p .0); small = p .1 .1 .0 }; fit = eqb-true room _ (p .1 .0) }
 
 -- ---- the trailer and the part, as the code reads them
 module _ (s : List ℕ) (t : ℕ) (e : t ≡ trailer-place s) where
@@ -123,9 +123,9 @@ module _ (s : List ℕ) (f : Fields) (e : f ≡ fields-of s) (n : ℕ) (p : n �
 
 -- 7 and 9
 pub mosaic-rest : (s : List ℕ) (room n : ℕ) → n ≡ ask (store-questions s) → n ≡ 0 → (f : Fields) → f ≡ fields-of s
-    → (m : ℕ) → m ≡ ask (question 7 (eqb room (f .width * f .height)) ∷ samples-question ceiling (samples-of s) ∷ []) → m ≡ ask (mosaic-questions s room)
+    → (m : ℕ) → m ≡ ask (filling-questions f (samples-of s) room) → m ≡ ask (mosaic-questions s room)
 mosaic-rest s room n e z f q m r =
-    ask-later (store-questions s) _ m (located s n e z .answers) (r ∙ λ j. ask (question 7 (eqb room (q j .width * q j .height)) ∷ samples-question ceiling (samples-of s) ∷ []))
+    ask-later (store-questions s) _ m (located s n e z .answers) (r ∙ ap (λ (g : Fields). ask (filling-questions g (samples-of s) room)) q)
 
 -- ---- the calls
 module _ (s : List ℕ) (n : ℕ) (e : n ≡ ask (read-questions s)) where

@@ -1,21 +1,20 @@
 -- Runs of stores, and what the writer shows at its returns. Assumes nothing.
 use Prim.Native.Nat.{ℕ, suc, _+_, _*_, _≤_}
 use mathlib.Core.Path.{_≡_, refl, ap, _∙_}
-use mathlib.Core.Bool.{Bool, true}
+use mathlib.Core.Bool.{true}
 use mathlib.Core.List.{List, [], _∷_, _++_}
 use native.Mathlib.Nat.{add-zero}
 use native.Mathlib.Omega.{arith}
-use lib.Dec.{leb, eqb}
 use lib.ListN.{length, drop, set, length-append}
 use lib.Seq.{sets, sets-eq}
 use borrow.Author.Tests.{leb-true, eqb-true}
-use Rattle.questions.specs.Questions.{Question, question, ask, all-at-most, ceiling}
-use Rattle.questions.proofs.Asking.{all-yes, all-yes-split, ask-later}
+use Rattle.questions.specs.Questions.{ask, all-at-most, ceiling}
+use Rattle.questions.proofs.Asking.{all-yes, all-yes-split}
 use Rattle.questions.proofs.Answering.{answer-no, answer-yes, left-no, left-yes}
 use Rattle.little_endian.specs.Bytes.{bytes-of, sample-bytes}
 use Rattle.little_endian.proofs.Samples.{length-sample-bytes}
 use Rattle.packet.specs.Packet.{distance, trailer, packet}
-use Rattle.packet.specs.Calls.{fields-questions, write-questions, number-of-written, WriteResult}
+use Rattle.packet.specs.Calls.{fields-questions, writing-questions, write-questions, number-of-written, WriteResult}
 use Rattle.packet.specs.declared.Fields.{Fields}
 use Rattle.packet.specs.declared.WrittenPacket.the-variants.{Bytes, Refused}
 use Rattle.packet.proofs.Stores.{Allowed, allowed}
@@ -51,10 +50,6 @@ trailer-stored l at f d e {x₁} {x₂} {x₃} {x₄} {x₅} {x₆} e₁ e₂ e�
     (e₆ ∙ ap (λ (n : ℕ). sets x₅ (at + 8) (bytes-of 4 n)) e)
 
 -- ---- the questions
--- 6, 9 and 14, with the scan's answer b
-abbrev pub later-questions : Fields → List ℕ → Bool → ℕ → List Question
-later-questions f s b room = question 6 (eqb (length s) (f .width * f .height)) ∷ question 9 b ∷ question 14 (leb (distance f) room) ∷ []
-
 -- what a yes says of 1, 2, 3, 4, 5, 6, 9 and 14
 pub record Writable (f : Fields) (s : List ℕ) (room : ℕ) : Type 0 where
   pub fields : Allowed f
@@ -64,19 +59,13 @@ pub record Writable (f : Fields) (s : List ℕ) (room : ℕ) : Type 0 where
 
 pub writable : (f : Fields) (s : List ℕ) (room n : ℕ) → n ≡ ask (write-questions f s room) → n ≡ 0 → Writable f s room
 writable f s room n e z =
-    let y = all-yes-split (fields-questions f) (later-questions f s (all-at-most ceiling s) room) (all-yes (write-questions f s room) tt n e z) in
+    let y = all-yes-split (fields-questions f) (writing-questions f s room) (all-yes (write-questions f s room) tt n e z) in
     record {
       fields = allowed f (y .0);
       given = eqb-true (length s) (f .width * f .height) (y .1 .0);
       small = y .1 .1 .0;
       fit = leb-true (distance f) room (y .1 .1 .1 .0);
     }
-
-pub write-rest : (f : Fields) (s : List ℕ) (room n : ℕ) → n ≡ ask (fields-questions f) → n ≡ 0 → (b : Bool) → b ≡ all-at-most ceiling s
-    → (m : ℕ) → m ≡ ask (later-questions f s b room) → m ≡ ask (write-questions f s room)
-write-rest f s room n e z b p m r =
-    ask-later (fields-questions f) _ m (all-yes (fields-questions f) tt n e z)
-    (r ∙ ap (λ (x : Bool). ask (later-questions f s x room)) p)
 
 -- ---- the call
 pub length-packet : (f : Fields) (s : List ℕ) → length s ≡ f .width * f .height → length (packet f s) ≡ distance f

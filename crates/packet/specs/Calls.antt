@@ -30,19 +30,26 @@ abbrev pub store-questions : List ℕ → List Question
 store-questions store =
     question 11 (leb 12 (length store)) ∷ fields-questions (fields-of store) ++ distance-questions (distance-in store) (fields-of store) (length store)
 
--- the reader: these, and 9
+-- the reader: 11, 1, 2, 3, 4, 5, 12, 13, 9
 abbrev pub read-questions : List ℕ → List Question
 read-questions store = store-questions store ++ (samples-question ceiling (samples-of store) ∷ [])
 
--- reading into a mosaic of `room`: these, 7 and 9
+-- 7 mosaic to fill, of `room`, exactly w·h, 9
+abbrev pub filling-questions : Fields → List ℕ → ℕ → List Question
+filling-questions f samples room = question 7 (eqb room (f .width * f .height)) ∷ samples-question ceiling samples ∷ []
+
+-- reading into a mosaic of `room`: 11, 1, 2, 3, 4, 5, 12, 13, 7, 9
 abbrev pub mosaic-questions : List ℕ → ℕ → List Question
-mosaic-questions store room =
-    store-questions store ++ (question 7 (eqb room (fields-of store .width * fields-of store .height)) ∷ samples-question ceiling (samples-of store) ∷ [])
+mosaic-questions store room = store-questions store ++ filling-questions (fields-of store) (samples-of store) room
+
+-- 6 given samples exactly w·h, 9, 14 buffer of `room` long enough
+abbrev pub writing-questions : Fields → List ℕ → ℕ → List Question
+writing-questions f samples room =
+    question 6 (eqb (length samples) (f .width * f .height)) ∷ samples-question ceiling samples ∷ question 14 (leb (distance f) room) ∷ []
 
 -- the writer, into a buffer of `room`: 1, 2, 3, 4, 5, 6, 9, 14
 abbrev pub write-questions : Fields → List ℕ → ℕ → List Question
-write-questions f samples room =
-    fields-questions f ++ (question 6 (eqb (length samples) (f .width * f .height)) ∷ samples-question ceiling samples ∷ question 14 (leb (distance f) room) ∷ [])
+write-questions f samples room = fields-questions f ++ writing-questions f samples room
 
 -- the repeat call: all of the first store, then of the second
 abbrev pub repeat-questions : List ℕ → List ℕ → List Question

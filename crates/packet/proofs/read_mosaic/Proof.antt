@@ -24,16 +24,16 @@ known c =
     filling (now (a .store)) (length (now (a .mosaic))) _ (c .before .mosaic-refusal .ensures) (c .if1 .left)
 
 sample-part-requires : tie.Need-sample-part-requires
-sample-part-requires c κs = known c .at .asked
+sample-part-requires c κs = known c .packet .at .asked
 
 read-samples-requires : tie.Need-read-samples-requires
 read-samples-requires c κs =
     let e = c .before .before in
     let k = known e in
-    ap length (c .before .sample-part .ensures) ∙ length-part (now (e .before .before .before .before .args .store)) (k .at) ∙ ap (λ (n : ℕ). 2 * n) (sym (k .fit))
+    ap length (c .before .sample-part .ensures) ∙ length-part (now (e .before .before .before .before .args .store)) (k .packet .at) ∙ ap (λ (n : ℕ). 2 * n) (sym (k .fit))
 
 trailer-fields-requires : tie.Need-trailer-fields-requires
-trailer-fields-requires c κs = known (c .before .before .before .before .before) .at .long
+trailer-fields-requires c κs = known (c .before .before .before .before .before) .packet .at .long
 
 same-length : tie.Need-same-length
 same-length c = search needs

@@ -1,9 +1,13 @@
 -- `packet::store_refusal` meets its contract: 11, the fields' questions, then 12 and 13.
 -- Assumes nothing.
+use mathlib.Core.Path.{_≡_}
+use Prim.Native.Nat.{ℕ}
 use native.Mathlib.Omega.{arith}
+use lib.ListN.{length}
 use denote.Ref.{now}
+use Rattle.questions.specs.Questions.{ask}
 use Rattle.questions.proofs.Asking.{asking, all-yes}
-use Rattle.packet.specs.Calls.{fields-questions}
+use Rattle.packet.specs.Calls.{fields-questions, distance-questions, store-questions}
 use Rattle.packet.proofs.Stores.{Allowed, allowed, store-first, store-rest}
 use borrow.Author.Needs.{needs}
 use Rattle.packet.proofs.store_refusal.Statement.{statement}
@@ -40,26 +44,24 @@ add-length c = let k = known (c .before) in record { fits = omega (arith, k .sha
 distance-back-requires : tie.Need-distance-back-requires
 distance-back-requires c κs = search needs
 
-returns-3 : tie.Need-returns-3
-returns-3 c =
-    let d = c .before in
-    let e = d .before .before in
+-- 12 and 13, of what was read and compared
+rest : (c : tie.After-distance-back) (m : ℕ)
+    → let t = c .before .before .before .before in
+    let s = now (t .before .before .before .args .store) in
+    m ≡ ask (distance-questions (c .distance-back .result) (t .trailer-fields .result) (length s)) → m ≡ ask (store-questions s)
+rest c m r =
+    let e = c .before .before in
     let t = e .before .before in
-    store-rest (now (t .before .before .before .args .store)) (t .trailer-fields .result) (t .trailer-fields .ensures) _ (e .before .fields-refusal .ensures) (omega arith) (e .if2 .left) _ _ (d .distance-back .ensures) (search asking)
+    store-rest (now (t .before .before .before .args .store)) (t .trailer-fields .result) (t .trailer-fields .ensures) _ (e .before .fields-refusal .ensures) (omega arith) (e .if2 .left) m _ (c .distance-back .ensures) r
+
+returns-3 : tie.Need-returns-3
+returns-3 c = rest (c .before) _ (search asking)
 
 returns-4 : tie.Need-returns-4
-returns-4 c =
-    let d = c .before .before in
-    let e = d .before .before in
-    let t = e .before .before in
-    store-rest (now (t .before .before .before .args .store)) (t .trailer-fields .result) (t .trailer-fields .ensures) _ (e .before .fields-refusal .ensures) (omega arith) (e .if2 .left) _ _ (d .distance-back .ensures) (search asking)
+returns-4 c = rest (c .before .before) _ (search asking)
 
 returns-5 : tie.Need-returns-5
-returns-5 c =
-    let d = c .before .before in
-    let e = d .before .before in
-    let t = e .before .before in
-    store-rest (now (t .before .before .before .args .store)) (t .trailer-fields .result) (t .trailer-fields .ensures) _ (e .before .fields-refusal .ensures) (omega arith) (e .if2 .left) _ _ (d .distance-back .ensures) (search asking)
+returns-5 c = rest (c .before .before) _ (search asking)
 
 pub store-refusal-spec : {M : Type 1} → statement M
 store-refusal-spec =

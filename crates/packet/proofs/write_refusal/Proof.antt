@@ -1,14 +1,15 @@
 -- `packet::write_refusal` meets its contract: the fields' questions, then 6, 9 and 14.
 -- Assumes nothing.
-use mathlib.Core.Path.{_≡_, refl}
-use mathlib.Core.Bool.{true, false}
+use mathlib.Core.Path.{_≡_, sym, _∙_}
+use mathlib.Core.Bool.{Bool, true, false, not}
+use Prim.Native.Nat.{ℕ}
 use native.Mathlib.Omega.{arith}
 use denote.Ref.{now}
 use Rattle.integers.proofs.Tests.{not-is}
-use Rattle.questions.proofs.Asking.{asking, ask-first, all-yes}
-use Rattle.packet.specs.Calls.{fields-questions}
+use Rattle.questions.specs.Questions.{ask, all-at-most, ceiling}
+use Rattle.questions.proofs.Asking.{asking, ask-first, ask-later, all-yes}
+use Rattle.packet.specs.Calls.{fields-questions, writing-questions, write-questions}
 use Rattle.packet.proofs.Stores.{Allowed, allowed}
-use Rattle.packet.proofs.Writing.{write-rest}
 use borrow.Author.Needs.{needs}
 use Rattle.packet.proofs.write_refusal.Statement.{statement}
 use Rattle.packet.proofs.write_refusal.Tie as tie
@@ -24,14 +25,17 @@ known c =
     let f = c .before .before .before .args .f in
     allowed f (all-yes (fields-questions f) tt _ (c .before .fields-refusal .ensures) (c .if1 .left))
 
+-- 6, 9 and 14
+rest : (c : tie.Else1) (m : ℕ)
+    → let a = c .before .before .before .args in
+    m ≡ ask (writing-questions (a .f) (now (a .samples)) (a .room)) → m ≡ ask (write-questions (a .f) (now (a .samples)) (a .room))
+rest c m r = ask-later (fields-questions (c .before .before .before .args .f)) _ m (known c .answers) r
+
 mul-count : tie.Need-mul-count
 mul-count c = let k = known (c .before) in record { fits = omega (arith, k .shape .area) }
 
 returns-2 : tie.Need-returns-2
-returns-2 c =
-    let e = c .before .before in
-    let a = e .before .before .before .args in
-    write-rest (a .f) (now (a .samples)) (a .room) _ (e .before .fields-refusal .ensures) (e .if1 .left) _ refl _ (search asking)
+returns-2 c = rest (c .before .before) _ (search asking)
 
 mul-length : tie.Need-mul-length
 mul-length c = search needs
@@ -42,29 +46,24 @@ add-length c = search needs
 samples-within-requires : tie.Need-samples-within-requires
 samples-within-requires c κs = search needs
 
+-- the scan's answer, where it was tested
+scanned : (c : tie.After-samples-within) (v : Bool) → not (c .samples-within .result) ≡ v → all-at-most ceiling (now (c .before .before .before .before .before .before .args .samples)) ≡ not v
+scanned c v e = sym (c .samples-within .ensures) ∙ not-is (c .samples-within .result) v e
+
 returns-3 : tie.Need-returns-3
 returns-3 c =
-    let s = c .before in
-    let e = s .before .before .before in
-    let a = e .before .before .before .args in
-    let above : s .samples-within .result ≡ false = not-is (s .samples-within .result) true (c .if3 .taken) in
-    write-rest (a .f) (now (a .samples)) (a .room) _ (e .before .fields-refusal .ensures) (e .if1 .left) _ (s .samples-within .ensures) _ (search asking)
+    let above = scanned (c .before) true (c .if3 .taken) in
+    rest (c .before .before .before .before) _ (search asking)
 
 returns-4 : tie.Need-returns-4
 returns-4 c =
-    let s = c .before .before in
-    let e = s .before .before .before in
-    let a = e .before .before .before .args in
-    let within : s .samples-within .result ≡ true = not-is (s .samples-within .result) false (c .before .if3 .left) in
-    write-rest (a .f) (now (a .samples)) (a .room) _ (e .before .fields-refusal .ensures) (e .if1 .left) _ (s .samples-within .ensures) _ (search asking)
+    let within = scanned (c .before .before) false (c .before .if3 .left) in
+    rest (c .before .before .before .before .before) _ (search asking)
 
 returns-5 : tie.Need-returns-5
 returns-5 c =
-    let s = c .before .before in
-    let e = s .before .before .before in
-    let a = e .before .before .before .args in
-    let within : s .samples-within .result ≡ true = not-is (s .samples-within .result) false (c .before .if3 .left) in
-    write-rest (a .f) (now (a .samples)) (a .room) _ (e .before .fields-refusal .ensures) (e .if1 .left) _ (s .samples-within .ensures) _ (search asking)
+    let within = scanned (c .before .before) false (c .before .if3 .left) in
+    rest (c .before .before .before .before .before) _ (search asking)
 
 pub write-refusal-spec : {M : Type 1} → statement M
 write-refusal-spec =
