@@ -3,13 +3,13 @@
 -- Assumes nothing.
 use mathlib.Core.Path.{_≡_, refl, sym, ap, _∙_, subst}
 use mathlib.Core.Bool.{Bool, true, false, not, cond}
-use Prim.Native.Nat.{ℕ, zero, suc, _+_, _*_, _-_, _≤_, _<_, _^_}
+use Prim.Native.Nat.{ℕ, zero, suc, _+_, _*_, _-_, _/_, _≤_, _<_, _^_}
 use native.Mathlib.Decide.{decLe}
 use native.Mathlib.Omega.{arith}
 use native.Mathlib.Nat.{mul-le-mul, le-trans, le-refl}
 use lib.Dec.{T, ltb, ltb→lt, nltb→le, lit<}
 use lib.IntN.{ℤ, pos, negsuc, negℤ, natAbs, subℕ, _+ℤ_, _-ℤ_, _*ℤ_}
-use lib.Signed.{mag}
+use lib.Signed.{mag, quotZ}
 use borrow.Author.Tests.{le-ltb, lt-ltb}
 use mir.Syntax.{Width, w8, w16, w32, w64, w128}
 use mir.Val.{SFits, toZ, ofZ, sel, hbits, bits}
@@ -42,6 +42,11 @@ abs-mul (pos a) (pos b) = refl
 abs-mul (pos a) (negsuc b) = abs-neg (pos (a * suc b))
 abs-mul (negsuc a) (pos b) = abs-neg (pos (suc a * b))
 abs-mul (negsuc a) (negsuc b) = refl
+
+-- the machine's quotient, toward zero
+pub abs-quot : (z : ℤ) (d : ℕ) → natAbs (quotZ z (pos d)) ≡ natAbs z / d
+abs-quot (pos a) d = refl
+abs-quot (negsuc a) d = abs-neg (pos (suc a / d))
 
 -- the difference of two natural numbers, by which is larger; and how far apart they are
 pub minus-pos : (a b : ℕ) → b ≤ a → pos a -ℤ pos b ≡ pos (a - b)
@@ -86,6 +91,10 @@ abs-read w (negsuc n) =
 pub mag-abs : (z : ℤ) → mag z ≤ natAbs z
 mag-abs (pos n) = omega arith
 mag-abs (negsuc n) = omega arith
+
+pub abs-mag : (z : ℤ) → natAbs z ≤ suc (mag z)
+abs-mag (pos n) = omega arith
+abs-mag (negsuc n) = omega arith
 
 pub fits-abs : (w : Width) (z : ℤ) → natAbs z < 2 ^ hbits w → SFits w z
 fits-abs w z h = record { sfits = omega (arith, mag-abs z) }

@@ -7,10 +7,10 @@ use native.Mathlib.Nat.{div-add-mod, mod-lt, mul-suc, le-div-iff-mul-le, le-tran
 use native.Mathlib.Decide.{decLe}
 use native.Mathlib.Omega.{arith}
 use lib.Dec.{leb→le, le→leb}
-use lib.IntN.{ℤ, pos, negsuc, negℤ, natAbs, _+ℤ_, _-ℤ_, _*ℤ_}
+use lib.IntN.{ℤ, pos, negsuc, negℤ, natAbs, _+ℤ_, _-ℤ_, _*ℤ_, *ℤ-one, one}
 use lib.Signed.{_≤ℤ_}
 use Rattle.integers.specs.Numbers.{whole-divided, rounded}
-use Rattle.integers.proofs.Products.{*ℤ-sub}
+use Rattle.integers.proofs.Products.{*ℤ-sub, *ℤ-+ℤ}
 use Rattle.integers.proofs.Linear.{linear, eq-of-sub, x₀, x₁, x₂, neg, _⊕_, _⊖_}
 use Rattle.integers.proofs.Order.{≤ℤ-add}
 use Rattle.integers.proofs.Bounds.{abs-mul, abs-add, abs-minus}
@@ -65,6 +65,22 @@ one-quotient {d} {z} {p} {q} s t = multiple-close d p q (subst (λ (x : ℤ). na
 
 pub whole-divided-by : {d : ℕ} {z q : ℤ} → Divided d z q → whole-divided z d ≡ q
 whole-divided-by {d} {z} s = one-quotient (whole-divided-is d (omega (arith, s .below)) z) s
+
+-- d more is one more
+pub whole-divided-next : (d : ℕ) (z : ℤ) → 0 < d → whole-divided (z +ℤ pos d) d ≡ whole-divided z d +ℤ pos 1
+unfolding one
+whole-divided-next d z some = whole-divided-by (record { rest = q .rest; below = q .below; sum = more })
+  where
+    q : Divided d z (whole-divided z d)
+    q = whole-divided-is d some z
+
+    Q : ℤ
+    Q = pos d *ℤ whole-divided z d
+
+    more : z +ℤ pos d ≡ pos d *ℤ (whole-divided z d +ℤ pos 1) +ℤ pos (q .rest)
+    more =
+        ap (λ (x : ℤ). x +ℤ pos d) (q .sum) ∙ linear (Q ∷ pos (q .rest) ∷ pos d ∷ []) (x₀ ⊕ x₁ ⊕ x₂) (x₀ ⊕ x₂ ⊕ x₁) tt
+        ∙ ap (λ (x : ℤ). Q +ℤ x +ℤ pos (q .rest)) (sym (*ℤ-one (pos d))) ∙ ap (λ (x : ℤ). x +ℤ pos (q .rest)) (sym (*ℤ-+ℤ (pos d) (whole-divided z d) (pos 1)))
 
 div-monotone : (d : ℕ) {a b : ℕ} → 0 < d → a ≤ b → a / d ≤ b / d
 div-monotone d {a} {b} some h = le-div-iff-mul-le some .1 (le-trans (div-mul-le-self a d) h)

@@ -1,0 +1,74 @@
+// Inner: the filters of document 01's bank, one number at a time. LLVM inlines each, so that the loops over them are uniform.
+ghost use mathlib.Core.Path.{_≡_};
+ghost use Prim.Native.Nat.{_≤_};
+ghost use lib.IntN.{pos, natAbs};
+ghost use Rattle.integers.specs.Numbers.{whole-divided, rounded};
+ghost use Rattle.filters.specs.Bank.{low-split, high-split, low-join, high-join, weighted, brought-back};
+
+// 1 2 1
+pub fn low_split(a: i32, b: i32, c: i32) -> i32
+    requires { ⌜ (natAbs a ≤ 134217728) × (natAbs b ≤ 134217728) × (natAbs c ≤ 134217728) ⌝ }
+    ensures { λ r. ⌜ r ≡ weighted low-split (pos 0) a b c (pos 0) ⌝ }
+{
+    a + 2 * b + c
+}
+
+// 1 −2 1
+pub fn high_split(a: i32, b: i32, c: i32) -> i32
+    requires { ⌜ (natAbs a ≤ 134217728) × (natAbs b ≤ 134217728) × (natAbs c ≤ 134217728) ⌝ }
+    ensures { λ r. ⌜ r ≡ weighted high-split (pos 0) a b c (pos 0) ⌝ }
+{
+    a - 2 * b + c
+}
+
+// −1 2 6 2 −1
+pub fn low_join(a: i32, b: i32, c: i32, d: i32, e: i32) -> i32
+    requires { ⌜ (natAbs a ≤ 134217728) × (natAbs b ≤ 134217728) × (natAbs c ≤ 134217728) × (natAbs d ≤ 134217728) × (natAbs e ≤ 134217728) ⌝ }
+    ensures { λ r. ⌜ r ≡ weighted low-join a b c d e ⌝ }
+{
+    2 * (b + 3 * c + d) - (a + e)
+}
+
+// 1 2 −6 2 1
+pub fn high_join(a: i32, b: i32, c: i32, d: i32, e: i32) -> i32
+    requires { ⌜ (natAbs a ≤ 134217728) × (natAbs b ≤ 134217728) × (natAbs c ≤ 134217728) × (natAbs d ≤ 134217728) × (natAbs e ≤ 134217728) ⌝ }
+    ensures { λ r. ⌜ r ≡ weighted high-join a b c d e ⌝ }
+{
+    2 * (b - 3 * c + d) + (a + e)
+}
+
+// n whole-divided by 1,024: the fraction is dropped downward, below zero too.
+fn whole_divided(n: i32) -> i32
+    ensures { λ r. ⌜ r ≡ whole-divided n 1024 ⌝ }
+{
+    if n < 0 {
+        -1 - (-1 - n) / 1024
+    } else {
+        n / 1024
+    }
+}
+
+// (sum + 512) whole-divided by 1,024. From 0 on it is taken as one more than (sum − 512) divided, so that no sum wraps.
+pub fn rounded_quotient(sum: i32) -> i32
+    ensures { λ r. ⌜ r ≡ rounded 1024 sum ⌝ }
+{
+    if sum < 0 {
+        whole_divided(sum + 512)
+    } else {
+        whole_divided(sum - 512) + 1
+    }
+}
+
+// A sum brought back: the rounded quotient, clipped to 0..4,095.
+pub fn bring_back(sum: i32) -> u16
+    ensures { λ r. ⌜ r ≡ brought-back 4095 sum ⌝ }
+{
+    let quotient = rounded_quotient(sum);
+    if quotient < 0 {
+        return 0;
+    }
+    if 4095 < quotient {
+        return 4095;
+    }
+    quotient as u16
+}
