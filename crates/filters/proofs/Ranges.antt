@@ -1,9 +1,9 @@
 -- How large the bank's numbers grow, over a ceiling m: split within 16·m, join within 576·m. Assumes nothing.
-use mathlib.Core.Path.{_≡_, sym, subst}
+use mathlib.Core.Path.{sym, subst}
 use Prim.Native.Nat.{ℕ, _+_, _*_, _≤_, _<_}
 use native.Mathlib.Omega.{arith}
 use native.Mathlib.Nat.{le-trans, mul-le-mul-left}
-use lib.IntN.{ℤ, pos, natAbs, _+ℤ_, _*ℤ_}
+use lib.IntN.{ℤ, natAbs, _+ℤ_, _*ℤ_}
 use Rattle.integers.proofs.Bounds.{abs-add, abs-mul}
 use Rattle.border.specs.Border.{reflect}
 use Rattle.border.proofs.Reflection.{reflect-lt}
@@ -61,7 +61,7 @@ module _ (d w h m : ℕ) (wide : 0 < w) (high : 0 < h) where
     le-trans (filtered-range high-split high-split p b r c hr hc) (omega arith),
   )
 
-  pub join-range : (b : ℕ → ℕ → Bands)
+  pub join-range : (b : ℕ → ℕ → Bands ℤ)
       → Within m w h (λ r c. b r c .band1) → Within m w h (λ r c. b r c .band2) → Within m w h (λ r c. b r c .band3) → Within m w h (λ r c. b r c .band4)
       → Within (576 * m) w h (join d w h b)
   unfolding join gain low-join high-join

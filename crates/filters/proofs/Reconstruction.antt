@@ -4,12 +4,12 @@
 use mathlib.Core.Path.{_≡_, refl, sym, _∙_, ap, fun-ext}
 use mathlib.Core.List.{[], _∷_}
 use Prim.Native.Nat.{ℕ, _<_}
-use lib.IntN.{ℤ, pos, negℤ, _+ℤ_, _-ℤ_, _*ℤ_, negℤ-+ℤ, +ℤ-assoc}
+use lib.IntN.{ℤ, pos, negℤ, _+ℤ_, _*ℤ_, negℤ-+ℤ, +ℤ-assoc}
 use Rattle.integers.proofs.Products.{*ℤ-+ℤ, *ℤ-assoc}
 use Rattle.integers.proofs.Linear.{linear, x₀, x₁, x₂, _⊕_}
 use Rattle.border.specs.Border.{reflect}
 use Rattle.border.proofs.Reflection.{period, reflect-neg, reflect-period, reflect-fixes, reflect-inside}
-use Rattle.filters.specs.Bank.{Taps, tap, along, along-rows, along-columns, filtered, Bands, split, join, low-split, high-split, low-join, high-join}
+use Rattle.filters.specs.Bank.{Taps, tap, along, along-rows, along-columns, filtered, split, join, low-split, high-split, low-join, high-join}
 use Rattle.filters.proofs.Taps.{tap-cong, tap-moved, tap-turned, tap-add, tap-times, tap-tap, whole-line}
 
 -- ---- endless planes
@@ -61,16 +61,16 @@ times-twice X = fun-ext (λ i. fun-ext (λ j. sym (*ℤ-assoc (pos 32) (pos 32) 
 -- the two bands that have the same filter along columns
 whole-half : (d : ℕ) (j s : Taps) (X : ℤ → ℤ → ℤ)
     → plus (down j d (across low-join d (down s d (across low-split d X)))) (down j d (across high-join d (down s d (across high-split d X))))
-      ≡ times (pos 32) (down j d (down s d X))
+    ≡ times (pos 32) (down j d (down s d X))
 whole-half d j s X =
     rw (across-down low-join s, across-down high-join s, ← down-plus j d, ← down-plus s d, whole-across, down-times s, down-times j)
 
 whole-plane : (d : ℕ) (X : ℤ → ℤ → ℤ)
     → plus (plus (plus (down low-join d (across low-join d (down low-split d (across low-split d X))))
-                       (down low-join d (across high-join d (down low-split d (across high-split d X)))))
-                 (down high-join d (across low-join d (down high-split d (across low-split d X)))))
-           (down high-join d (across high-join d (down high-split d (across high-split d X))))
-      ≡ times (pos 1024) X
+    (down low-join d (across high-join d (down low-split d (across high-split d X)))))
+    (down high-join d (across low-join d (down high-split d (across low-split d X)))))
+    (down high-join d (across high-join d (down high-split d (across high-split d X))))
+    ≡ times (pos 1024) X
 whole-plane d X =
     rw (plus-assoc, whole-half d low-join low-split X, whole-half d high-join high-split X, plus-times, whole-down, times-twice)
 
@@ -99,8 +99,8 @@ module _ (w h : ℕ) (wide : 0 < w) (high : 0 < h) where
   unfolding endless filtered along-rows along-columns down across
   endless-filtered tr tc d p =
       fun-ext (λ i. fun-ext (λ j.
-        along-reflect tc d h high (λ r. along tr d w (p r) (reflect w j)) i
-        ∙ tap-cong tc d _ _ (λ a. along-reflect tr d w wide (p (reflect h a)) j) i))
+      along-reflect tc d h high (λ r. along tr d w (p r) (reflect w j)) i
+      ∙ tap-cong tc d _ _ (λ a. along-reflect tr d w wide (p (reflect h a)) j) i))
 
   -- join of split, as operators on the endless plane
   endless-bank : (d : ℕ) (p : ℕ → ℕ → ℤ) → endless w h (join d w h (split d w h p)) ≡ times (pos 1024) (endless w h p)

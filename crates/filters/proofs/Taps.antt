@@ -2,11 +2,11 @@
 -- plane commute, and joining what was split gives the line 32 times. Assumes nothing.
 use mathlib.Core.Path.{_≡_, refl, sym, _∙_, ap, fun-ext}
 use mathlib.Core.List.{[], _∷_}
-use Prim.Native.Nat.{ℕ, suc, _+_, _*_}
+use Prim.Native.Nat.{ℕ, _+_, _*_}
 use native.Mathlib.Omega.{arith}
 use lib.IntN.{ℤ, pos, negsuc, negℤ, _+ℤ_, _-ℤ_, _*ℤ_, negℤ-negℤ, +ℤ-comm, +ℤ-idr, +ℤ-assoc, zero-*ℤ}
-use Rattle.integers.proofs.Products.{+ℤ-interchange, +ℤ-*ℤ, *ℤ-+ℤ, *ℤ-assoc, *ℤ-left-comm, negℤ-*ℤ}
-use Rattle.integers.proofs.Linear.{Linear, linear, atom, x₀, x₁, x₂, x₃, _⊕_, _⊖_, _⊛_}
+use Rattle.integers.proofs.Products.{+ℤ-interchange, +ℤ-*ℤ, *ℤ-+ℤ, *ℤ-left-comm, negℤ-*ℤ}
+use Rattle.integers.proofs.Linear.{Linear, linear, atom, x₀, x₁, x₂, x₃, _⊕_, _⊛_}
 use Rattle.filters.specs.Bank.{Taps, weighted, tap, low-split, high-split, low-join, high-join}
 
 -- ---- five values
@@ -26,7 +26,7 @@ module _ (t : Taps) where
   weighted-add a b c d e a' b' c' d' e' =
       (λ m. *ℤ-+ℤ (t .centre) c c' m +ℤ pair (t .near) b d b' d' m +ℤ pair (t .far) a e a' e' m)
       ∙ linear ((t .centre *ℤ c) ∷ (t .centre *ℤ c') ∷ (t .near *ℤ (b +ℤ d)) ∷ (t .near *ℤ (b' +ℤ d')) ∷ (t .far *ℤ (a +ℤ e)) ∷ (t .far *ℤ (a' +ℤ e')) ∷ [])
-          ((x₀ ⊕ x₁) ⊕ (x₂ ⊕ x₃) ⊕ (atom 4 ⊕ atom 5)) ((x₀ ⊕ x₂ ⊕ atom 4) ⊕ (x₁ ⊕ x₃ ⊕ atom 5)) tt
+      ((x₀ ⊕ x₁) ⊕ (x₂ ⊕ x₃) ⊕ (atom 4 ⊕ atom 5)) ((x₀ ⊕ x₂ ⊕ atom 4) ⊕ (x₁ ⊕ x₃ ⊕ atom 5)) tt
     where
       pair : (f x y x' y' : ℤ) → f *ℤ ((x +ℤ x') +ℤ (y +ℤ y')) ≡ f *ℤ (x +ℤ y) +ℤ f *ℤ (x' +ℤ y')
       pair f x y x' y' = ap (λ z. f *ℤ z) (+ℤ-interchange x x' y y') ∙ *ℤ-+ℤ f (x +ℤ y) (x' +ℤ y')
@@ -104,7 +104,7 @@ whole-at-0 : (z : ℤ → ℤ) → tap low-join 1 (tap low-split 1 z) (pos 0) +�
 unfolding tap weighted low-split high-split low-join high-join tap-linear place
 whole-at-0 z =
     linear (z (pos 0) ∷ z (negsuc 0) ∷ z (pos 1) ∷ z (negsuc 1) ∷ z (pos 2) ∷ z (negsuc 2) ∷ z (pos 3) ∷ z (negsuc 3) ∷ z (pos 4) ∷ [])
-      (tap-linear low-join (tap-linear low-split place) (pos 0) ⊕ tap-linear high-join (tap-linear high-split place) (pos 0)) (pos 32 ⊛ x₀) tt
+    (tap-linear low-join (tap-linear low-split place) (pos 0) ⊕ tap-linear high-join (tap-linear high-split place) (pos 0)) (pos 32 ⊛ x₀) tt
 
 -- every d-th place, numbered from i on
 every : ℕ → (ℤ → ℤ) → ℤ → ℤ → ℤ

@@ -1,18 +1,18 @@
 -- Split and join commute with every turn; at an exchange bands 2 and 3 change places. Assumes nothing.
-use mathlib.Core.Path.{_≡_, refl, sym, _∙_, ap}
+use mathlib.Core.Path.{_≡_, sym, _∙_, ap}
 use mathlib.Core.Bool.{Bool}
 use mathlib.Core.List.{[], _∷_}
 use Prim.Native.Nat.{ℕ}
 use lib.IntN.{ℤ, pos, negℤ, _+ℤ_, +ℤ-assoc, +ℤ-idr, negℤ-+ℤ}
 use Rattle.integers.proofs.Linear.{linear, x₀, x₁, x₂, x₃, _⊕_}
 use Rattle.border.specs.Border.{reflect}
-use Rattle.turns.specs.Operations.{Operation, Around, nearby}
+use Rattle.turns.specs.Operations.{Around, nearby}
 use Rattle.turns.proofs.Commuting.{Commutes, same, commutes-by, nearby-commutes}
 use Rattle.filters.specs.Bank.{Taps, tap, along, along-rows, along-columns, filtered, Bands, split, join, low-split, high-split, low-join, high-join}
 use Rattle.filters.proofs.Taps.{tap-cong, tap-moved, tap-turned, tap-tap}
 
 -- what the bands hold at a place after an exchange
-unfoldable pub exchange-bands : Bands → Bands
+unfoldable pub exchange-bands : Bands ℤ → Bands ℤ
 exchange-bands b = record { band1 = b .band1; band2 = b .band3; band3 = b .band2; band4 = b .band4 }
 
 -- ---- both filters, around a place
@@ -38,7 +38,7 @@ unfolding around
 around-mirror tr tc d n = tap-cong tc d _ _ (λ i. tap-turned tr d (n i) negℤ negℤ-+ℤ (pos 0)) (pos 0)
 
 -- ---- split
-split-around : ℕ → Bool → Bool → Around ℤ → Bands
+split-around : ℕ → Bool → Bool → Around ℤ → Bands ℤ
 split-around d a b n = record { band1 = around low-split low-split d n; band2 = around high-split low-split d n; band3 = around low-split high-split d n; band4 = around high-split high-split d n }
 
 pub split-commutes : (d : ℕ) → Commutes same exchange-bands (λ w h l p. split d w h p)
@@ -66,7 +66,7 @@ split-commutes d =
     }))
 
 -- ---- join
-join-around : ℕ → Bool → Bool → Around Bands → ℤ
+join-around : ℕ → Bool → Bool → Around (Bands ℤ) → ℤ
 join-around d a b n =
     around low-join low-join d (λ i j. n i j .band1) +ℤ around high-join low-join d (λ i j. n i j .band2)
     +ℤ around low-join high-join d (λ i j. n i j .band3) +ℤ around high-join high-join d (λ i j. n i j .band4)
@@ -76,14 +76,14 @@ unfolding join join-around nearby exchange-bands
 join-commutes d =
     commutes-by
     (λ w h l b r c. λ m.
-      around-filtered low-join low-join d w h (λ i j. b i j .band1) r c m +ℤ around-filtered high-join low-join d w h (λ i j. b i j .band2) r c m
-      +ℤ around-filtered low-join high-join d w h (λ i j. b i j .band3) r c m +ℤ around-filtered high-join high-join d w h (λ i j. b i j .band4) r c m)
+    around-filtered low-join low-join d w h (λ i j. b i j .band1) r c m +ℤ around-filtered high-join low-join d w h (λ i j. b i j .band2) r c m
+    +ℤ around-filtered low-join high-join d w h (λ i j. b i j .band3) r c m +ℤ around-filtered high-join high-join d w h (λ i j. b i j .band4) r c m)
     (nearby-commutes exchange-bands same (join-around d)
     (λ x y n.
-      (λ m. around-exchange low-join low-join d (λ i j. n i j .band1) m +ℤ around-exchange high-join low-join d (λ i j. n i j .band3) m
-        +ℤ around-exchange low-join high-join d (λ i j. n i j .band2) m +ℤ around-exchange high-join high-join d (λ i j. n i j .band4) m)
-      ∙ linear (around low-join low-join d (λ i j. n i j .band1) ∷ around low-join high-join d (λ i j. n i j .band3) ∷ around high-join low-join d (λ i j. n i j .band2) ∷ around high-join high-join d (λ i j. n i j .band4) ∷ [])
-          (x₀ ⊕ x₁ ⊕ x₂ ⊕ x₃) (x₀ ⊕ x₂ ⊕ x₁ ⊕ x₃) tt)
+    (λ m. around-exchange low-join low-join d (λ i j. n i j .band1) m +ℤ around-exchange high-join low-join d (λ i j. n i j .band3) m
+    +ℤ around-exchange low-join high-join d (λ i j. n i j .band2) m +ℤ around-exchange high-join high-join d (λ i j. n i j .band4) m)
+    ∙ linear (around low-join low-join d (λ i j. n i j .band1) ∷ around low-join high-join d (λ i j. n i j .band3) ∷ around high-join low-join d (λ i j. n i j .band2) ∷ around high-join high-join d (λ i j. n i j .band4) ∷ [])
+    (x₀ ⊕ x₁ ⊕ x₂ ⊕ x₃) (x₀ ⊕ x₂ ⊕ x₁ ⊕ x₃) tt)
     (λ x y n. λ m.
-      around-mirror low-join low-join d (λ i j. n i j .band1) m +ℤ around-mirror high-join low-join d (λ i j. n i j .band2) m
-      +ℤ around-mirror low-join high-join d (λ i j. n i j .band3) m +ℤ around-mirror high-join high-join d (λ i j. n i j .band4) m))
+    around-mirror low-join low-join d (λ i j. n i j .band1) m +ℤ around-mirror high-join low-join d (λ i j. n i j .band2) m
+    +ℤ around-mirror low-join high-join d (λ i j. n i j .band3) m +ℤ around-mirror high-join high-join d (λ i j. n i j .band4) m))

@@ -53,15 +53,15 @@ unfoldable pub filtered : Taps → Taps → ℕ → ℕ → ℕ → (ℕ → ℕ
 filtered on-rows on-columns d w h plane = along-columns on-columns d h (along-rows on-rows d w plane)
 
 -- ---- split and join, with taps d places apart; document 01's are next to each other
--- what the four bands hold at a place
-pub record Bands : Type 0 where
-  pub band1 : ℤ
-  pub band2 : ℤ
-  pub band3 : ℤ
-  pub band4 : ℤ
+-- one of a kind for each of the four bands: the four values at a place, or four lists
+pub record Bands (A : Type 0) : Type 0 where
+  pub band1 : A
+  pub band2 : A
+  pub band3 : A
+  pub band4 : A
 
 -- Band 1 is low along rows and columns, band 2 high along rows and low along columns, band 3 the reverse, band 4 high along both.
-unfoldable pub split : ℕ → ℕ → ℕ → (ℕ → ℕ → ℤ) → ℕ → ℕ → Bands
+unfoldable pub split : ℕ → ℕ → ℕ → (ℕ → ℕ → ℤ) → ℕ → ℕ → Bands ℤ
 split d w h plane r c = record {
   band1 = filtered low-split low-split d w h plane r c;
   band2 = filtered high-split low-split d w h plane r c;
@@ -70,7 +70,7 @@ split d w h plane r c = record {
 }
 
 -- each band through the matching join taps, the four summed
-unfoldable pub join : ℕ → ℕ → ℕ → (ℕ → ℕ → Bands) → ℕ → ℕ → ℤ
+unfoldable pub join : ℕ → ℕ → ℕ → (ℕ → ℕ → Bands ℤ) → ℕ → ℕ → ℤ
 join d w h bands r c =
     filtered low-join low-join d w h (λ i j. bands i j .band1) r c
     +ℤ filtered high-join low-join d w h (λ i j. bands i j .band2) r c

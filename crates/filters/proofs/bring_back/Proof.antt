@@ -1,12 +1,11 @@
 -- `filters::bring_back` meets its contract: the rounded quotient, clipped by two tests.
 -- Assumes nothing.
 use mathlib.Core.Path.{_≡_, sym, _∙_, ap, subst}
-use mathlib.Core.Bool.{true, false}
 use Prim.Native.Nat.{_≤_}
 use native.Mathlib.Omega.{arith}
 use lib.Dec.{T}
 use lib.IntN.{ℤ, pos, natAbs}
-use lib.Signed.{ltZ, nonNeg}
+use lib.Signed.{nonNeg}
 use mir.Syntax.{w32}
 use mir.Val.{toZ, ofZ}
 use mir.Facts.{toZ-ofZ as back}

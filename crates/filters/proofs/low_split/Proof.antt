@@ -4,7 +4,7 @@ use mathlib.Core.List.{[], _∷_}
 use lib.IntN.{pos}
 use mir.Facts.{toZ-ofZ as back}
 use Rattle.integers.proofs.Bounds.{fits, bounds}
-use Rattle.integers.proofs.Linear.{linear, number, x₀, x₁, x₂, _⊕_, _⊖_, _⊛_}
+use Rattle.integers.proofs.Linear.{linear, number, x₀, x₁, x₂, _⊕_, _⊛_}
 use Rattle.filters.specs.Bank.{weighted, low-split}
 use Rattle.filters.proofs.Taps.{weighted-linear}
 use Rattle.filters.proofs.low_split.Statement.{statement}

@@ -1,0 +1,213 @@
+-- The laws of runs, of what the filters read along them, and of padded lines. Assumes nothing.
+use mathlib.Core.Path.{_≡_, refl, sym, _∙_, ap, subst}
+use mathlib.Core.List.{List, [], _∷_}
+use Prim.Native.Nat.{ℕ, _+_, _*_, _-_, _≤_, _<_}
+use native.Mathlib.Decide.{decLt}
+use native.Mathlib.Omega.{arith}
+use lib.IntN.{ℤ, pos, natAbs, _+ℤ_, _-ℤ_, +ℤ-idr}
+use lib.ListN.{length}
+use lib.Seq.{ext-getD}
+use mir.Syntax.{w32}
+use mir.Val.{toZ, ofZ}
+use mir.Facts.{toZ-ofZ as back}
+use Rattle.integers.specs.Lists.{overwrite}
+use Rattle.integers.proofs.Linear.{linear, x₀, x₁, x₂, _⊕_, _⊖_}
+use Rattle.integers.proofs.Bounds.{abs-read, fits-abs, minus-pos}
+use Rattle.integers.proofs.Lists.{length-overwrite, overwrite-in, overwrite-after, overwrite-at, overwrite-again, overwrite-cong}
+use Rattle.border.specs.Border.{reflect}
+use Rattle.border.proofs.Reflection.{reflect-lt, reflect-inside}
+use Rattle.filters.specs.Bank.{Taps, weighted, tap, along, low-join, high-join}
+use Rattle.filters.proofs.Taps.{weighted-three}
+use Rattle.filters.proofs.Ranges.{gain, weighted-range}
+use Rattle.lines.specs.Lines.{value, Run, Runs, three, five, joined, meant, padded}
+
+-- ---- runs
+-- a value of a run, as the machine reads it
+abbrev read : List ℤ → ℕ → ℤ
+read l k = toZ w32 (ofZ w32 (value l k))
+
+pub read-small : {m : ℕ} {l : List ℤ} {o n : ℕ} (b : ℕ) → m ≤ b → Run m l o n → (k : ℕ) → k < n → natAbs (read l (o + k)) ≤ b
+read-small {l = l} {o = o} b h run k i = omega (arith, abs-read w32 (value l (o + k)), run .small k i)
+
+read-value : {m : ℕ} {l : List ℤ} {o n : ℕ} → m < 2147483648 → Run m l o n → (k : ℕ) → k < n → read l (o + k) ≡ value l (o + k)
+read-value {l = l} {o = o} h run k i = back (fits-abs w32 (value l (o + k)) (omega (arith, run .small k i)))
+
+-- a run of more places, from s places later on
+pub run-part : {m : ℕ} {l : List ℤ} {o n : ℕ} → Run m l o n → (s k at : ℕ) → at ≡ o + s → s + k ≤ n → Run m l at k
+run-part {m} {l} {o} {n} run s k at e h = record { inside = omega (arith, run .inside); small = go }
+  where
+    place : (i : ℕ) → o + (s + i) ≡ at + i
+    place i = omega arith
+
+    go : (i : ℕ) → i < k → natAbs (value l (at + i)) ≤ m
+    go i j = let b : natAbs (value l (o + (s + i))) ≤ m = run .small (s + i) (omega arith) in omega (arith, ap (λ (p : ℕ). natAbs (value l p)) (place i))
+
+-- what stands before what was laid down, or after it, is as it was
+pub outside : (l : List ℤ) (o n : ℕ) (f : ℕ → ℤ) (p : ℕ) → o + n ≤ length l → (o ≤ p → o + n ≤ p) → value (overwrite l o n f) p ≡ value l p
+outside l o n f p h apart = overwrite-at l o n f p (pos 0) (value l p) h (λ b. refl) (λ i b e. absurd (let q : o + n ≤ p = apart (omega arith) in omega arith)) (λ b. refl)
+
+-- what was laid down is a run, where its values are small
+pub run-laid : (m : ℕ) (l : List ℤ) (o n : ℕ) (f : ℕ → ℤ) → o + n ≤ length l → ((k : ℕ) → k < n → natAbs (f k) ≤ m) → Run m (overwrite l o n f) o n
+run-laid m l o n f h b = record {
+  inside = omega (arith, length-overwrite l o n f h);
+  small = λ k i. omega (arith, ap natAbs (overwrite-in l o n f k (pos 0) h i), b k i);
+}
+
+-- ---- three runs: what the filters read is small, what they make of it, and how far from 0 that is
+module _ (t : Taps) {m : ℕ} {l : List ℤ} {a b c n : ℕ} (ra : Run m l a n) (rb : Run m l b n) (rc : Run m l c n) (k : ℕ) (i : k < n) where
+  pub three-small : (most : ℕ) → m ≤ most → (natAbs (read l (a + k)) ≤ most) × (natAbs (read l (b + k)) ≤ most) × (natAbs (read l (c + k)) ≤ most)
+  three-small most h = (read-small most h ra k i, read-small most h rb k i, read-small most h rc k i)
+
+  pub three-read : m < 2147483648 → weighted t (pos 0) (read l (a + k)) (read l (b + k)) (read l (c + k)) (pos 0) ≡ three t l a b c k
+  unfolding three
+  three-read h = λ x. weighted t (pos 0) (read-value h ra k i x) (read-value h rb k i x) (read-value h rc k i x) (pos 0)
+
+  pub three-range : natAbs (three t l a b c k) ≤ gain t * m
+  unfolding three
+  three-range = weighted-range t m _ _ _ _ _ (omega arith) (ra .small k i) (rb .small k i) (rc .small k i) (omega arith)
+
+-- ---- and five
+module _ (t : Taps) {m : ℕ} {l : List ℤ} {a b c d e n : ℕ} (r : Runs m l a b c d e n) (k : ℕ) (i : k < n) where
+  pub five-small : (most : ℕ) → m ≤ most
+      → (natAbs (read l (a + k)) ≤ most) × (natAbs (read l (b + k)) ≤ most) × (natAbs (read l (c + k)) ≤ most) × (natAbs (read l (d + k)) ≤ most) × (natAbs (read l (e + k)) ≤ most)
+  five-small most h = (read-small most h (r .first) k i, read-small most h (r .second) k i, read-small most h (r .third) k i, read-small most h (r .fourth) k i, read-small most h (r .fifth) k i)
+
+  pub five-read : m < 2147483648 → weighted t (read l (a + k)) (read l (b + k)) (read l (c + k)) (read l (d + k)) (read l (e + k)) ≡ five t l a b c d e k
+  unfolding five
+  five-read h = λ x. weighted t (read-value h (r .first) k i x) (read-value h (r .second) k i x) (read-value h (r .third) k i x) (read-value h (r .fourth) k i x) (read-value h (r .fifth) k i x)
+
+  pub five-range : natAbs (five t l a b c d e k) ≤ gain t * m
+  unfolding five
+  five-range = weighted-range t m _ _ _ _ _ (r .first .small k i) (r .second .small k i) (r .third .small k i) (r .fourth .small k i) (r .fifth .small k i)
+
+-- ---- padded lines
+module _ (n pad : ℕ) (some : 1 ≤ n) where
+  pub meant-inside : (k : ℕ) → (pad ≤ meant n pad k) × (meant n pad k < pad + n)
+  unfolding meant
+  meant-inside k = (omega arith, omega (arith, reflect-lt n some (pos k -ℤ pos pad)))
+
+  -- a place of the middle means itself
+  meant-middle : (k : ℕ) → pad ≤ k → k < pad + n → meant n pad k ≡ k
+  unfolding meant
+  meant-middle k h i = ap (λ (z : ℤ). pad + reflect n z) (minus-pos k pad h) ∙ ap (λ (j : ℕ). pad + j) (reflect-inside n (k - pad) (omega arith)) ∙ omega arith
+
+  module _ (l : List ℤ) (fit : pad + n + pad ≤ length l) where
+    pub padded-at : (k : ℕ) → k < pad + n + pad → value (padded n pad l) k ≡ value l (meant n pad k)
+    unfolding padded
+    padded-at k h = ap (λ (j : ℕ). value (overwrite l 0 (pad + n + pad) (λ i. value l (meant n pad i))) j) start ∙ overwrite-in l 0 (pad + n + pad) (λ i. value l (meant n pad i)) k (pos 0) (omega arith) h
+      where
+        start : k ≡ 0 + k
+        start = omega arith
+
+    pub length-padded : length (padded n pad l) ≡ length l
+    unfolding padded
+    length-padded = length-overwrite l 0 (pad + n + pad) (λ i. value l (meant n pad i)) (omega arith)
+
+    -- the one side and then the other
+    pub padded-by : {first last : List ℤ} → first ≡ overwrite l 0 pad (λ k. value l (meant n pad (0 + k))) → last ≡ overwrite first (pad + n) pad (λ k. value first (meant n pad (pad + n + k))) → last ≡ padded n pad l
+    padded-by {first} {last} e f =
+        f ∙ ext-getD (pos 0) (overwrite first (pad + n) pad G) (padded n pad l) (length-overwrite first (pad + n) pad G room ∙ long ∙ sym length-padded)
+        (λ k h. overwrite-at first (pad + n) pad G k (pos 0) (value (padded n pad l) k) room (before k) (inside k) (after k))
+      where
+        F : ℕ → ℤ
+        F k = value l (meant n pad (0 + k))
+
+        G : ℕ → ℤ
+        G k = value first (meant n pad (pad + n + k))
+
+        long : length first ≡ length l
+        long = ap length e ∙ length-overwrite l 0 pad F (omega arith)
+
+        room : pad + n + pad ≤ length first
+        room = omega (arith, long)
+
+        -- past the first side, nothing has changed
+        kept : (k : ℕ) → pad ≤ k → value first k ≡ value l k
+        kept k h = ap (λ (x : List ℤ). value x k) e ∙ overwrite-after l 0 pad F k (pos 0) (omega arith) (omega arith)
+
+        before : (k : ℕ) → k < pad + n → value first k ≡ value (padded n pad l) k
+        before k h = go (decLt k pad)
+          where
+            go : Dec (k < pad) → value first k ≡ value (padded n pad l) k
+            go (yes b) = ap (λ (x : List ℤ). value x k) e ∙ overwrite-at l 0 pad F k (pos 0) (value (padded n pad l) k) (omega arith) (λ z. absurd (omega arith)) (λ i j q. ap (λ (p : ℕ). value l (meant n pad p)) (sym q) ∙ sym (padded-at k (omega arith))) (λ z. absurd (omega arith))
+            go (no b) = kept k (omega arith) ∙ ap (value l) (sym (meant-middle k (omega arith) h)) ∙ sym (padded-at k (omega arith))
+
+        inside : (k i : ℕ) → i < pad → k ≡ pad + n + i → G i ≡ value (padded n pad l) k
+        inside k i b q =
+            kept (meant n pad (pad + n + i)) (meant-inside (pad + n + i) .0) ∙ ap (λ (p : ℕ). value l (meant n pad p)) (sym q) ∙ sym (padded-at k (omega arith))
+
+        after : (k : ℕ) → pad + n + pad ≤ k → value first k ≡ value (padded n pad l) k
+        after k h = kept k (omega arith) ∙ sym (unfold padded in overwrite-after l 0 (pad + n + pad) (λ i. value l (meant n pad i)) k (pos 0) (omega arith) (omega arith))
+
+    -- s places after place k of the padded line stands what is s − pad places after place k of the line
+    pub padded-near : (s k : ℕ) (i : ℤ) → s + k < pad + n + pad → pos k +ℤ (pos s -ℤ pos pad) ≡ i → value (padded n pad l) (s + k) ≡ value l (pad + reflect n i)
+    unfolding meant
+    padded-near s k i h e =
+        padded-at (s + k) h ∙ ap (λ (z : ℤ). value l (pad + reflect n z)) (linear (pos s ∷ pos k ∷ pos pad ∷ []) ((x₀ ⊕ x₁) ⊖ x₂) (x₁ ⊕ (x₀ ⊖ x₂)) tt ∙ e)
+
+    -- any m places of a padded line are a run where its middle is one
+    pub run-padded : (m : ℕ) → Run m l pad n → (o k : ℕ) → o + k ≤ pad + n + pad → Run m (padded n pad l) o k
+    run-padded m run o k h = record { inside = omega (arith, length-padded); small = λ i j. small i j }
+      where
+        small : (i : ℕ) → i < k → natAbs (value (padded n pad l) (o + i)) ≤ m
+        small i j =
+            let q = meant-inside (o + i) in
+            let b : natAbs (value l (pad + (meant n pad (o + i) - pad))) ≤ m = run .small (meant n pad (o + i) - pad) (omega (arith, q .0, q .1)) in
+            let back : pad + (meant n pad (o + i) - pad) ≡ meant n pad (o + i) = omega (arith, q .0) in
+            omega (arith, ap natAbs (padded-at (o + i) (omega arith)), ap (λ (p : ℕ). natAbs (value l p)) back, b)
+
+-- ---- the filters along a padded line are the filters along the line
+pub three-along : (t : Taps) → t .far ≡ pos 0 → (n : ℕ) → 1 ≤ n → (l : List ℤ) → 1 + n + 1 ≤ length l → (k : ℕ) → k < n
+    → three t (padded n 1 l) 0 1 2 k ≡ along t 1 n (λ j. value l (1 + j)) k
+unfolding three along tap
+three-along t z n some l fit k h =
+    (λ m. weighted t (pos 0) (at 0 (pos k -ℤ pos 1) (omega arith) refl m) (at 1 (pos k) (omega arith) (+ℤ-idr (pos k)) m) (at 2 (pos k +ℤ pos 1) (omega arith) refl m) (pos 0))
+    ∙ weighted-three t z (X (pos k -ℤ pos 2)) (X (pos k -ℤ pos 1)) (X (pos k)) (X (pos k +ℤ pos 1)) (X (pos k +ℤ pos 2))
+  where
+    X : ℤ → ℤ
+    X i = value l (1 + reflect n i)
+
+    at : (s : ℕ) (i : ℤ) → s + k < 1 + n + 1 → pos k +ℤ (pos s -ℤ pos 1) ≡ i → value (padded n 1 l) (s + k) ≡ X i
+    at s i b e = padded-near n 1 some l fit s k i b e
+
+pub five-along : (t : Taps) (n : ℕ) → 1 ≤ n → (l : List ℤ) → 2 + n + 2 ≤ length l → (k : ℕ) → k < n → five t (padded n 2 l) 0 1 2 3 4 k ≡ along t 1 n (λ j. value l (2 + j)) k
+unfolding five along tap
+five-along t n some l fit k h = λ m. weighted t (at 0 (pos k -ℤ pos 2) (omega arith) refl m) (at 1 (pos k -ℤ pos 1) (omega arith) refl m) (at 2 (pos k) (omega arith) (+ℤ-idr (pos k)) m) (at 3 (pos k +ℤ pos 1) (omega arith) refl m) (at 4 (pos k +ℤ pos 2) (omega arith) refl m)
+  where
+    at : (s : ℕ) (i : ℤ) → s + k < 2 + n + 2 → pos k +ℤ (pos s -ℤ pos 2) ≡ i → value (padded n 2 l) (s + k) ≡ value l (2 + reflect n i)
+    at s i b e = padded-near n 2 some l fit s k i b e
+
+-- ---- as the calls leave them
+-- five lines through the low join filter, and then five through the high one added
+module _ {low : List ℤ} {a b c d e n : ℕ} (r : Runs 67108864 low a b c d e n) (out : List ℤ) (at : ℕ) (room : at + n ≤ length out) {first : List ℤ} (laid : first ≡ overwrite out at n (five low-join low a b c d e)) where
+  pub run-first : Run 805306368 first at n
+  unfolding gain low-join
+  run-first = subst (λ (l : List ℤ). Run 805306368 l at n) (sym laid) (run-laid 805306368 out at n (five low-join low a b c d e) room (λ k i. five-range low-join r k i))
+
+  pub joined-laid : (high : List ℤ) {last : List ℤ} → last ≡ overwrite first at n (λ k. value first (at + k) +ℤ five high-join high a b c d e k) → last ≡ overwrite out at n (joined low high a b c d e)
+  unfolding joined
+  joined-laid high p =
+      p ∙ (λ m. overwrite (laid m) at n (λ k. value (laid m) (at + k) +ℤ five high-join high a b c d e k))
+      ∙ overwrite-again (pos 0) out at n (five low-join low a b c d e) (λ k. value (overwrite out at n (five low-join low a b c d e)) (at + k) +ℤ five high-join high a b c d e k) room
+      ∙ overwrite-cong out at n _ _ (λ k i. ap (λ (x : ℤ). x +ℤ five high-join high a b c d e k) (overwrite-in out at n (five low-join low a b c d e) k (pos 0) room i))
+
+-- a padded line, and then the filters along it
+module _ {n : ℕ} (some : 1 ≤ n) (l : List ℤ) {line : List ℤ} (fit : 1 + n + 1 ≤ length l) (e : line ≡ padded n 1 l) where
+  pub three-runs : {m : ℕ} → Run m l 1 n → Run m line 0 n × Run m line 1 n × Run m line 2 n
+  three-runs {m} r = subst (λ (x : List ℤ). Run m x 0 n × Run m x 1 n × Run m x 2 n) (sym e) (run-padded n 1 some l fit m r 0 n (omega arith), run-padded n 1 some l fit m r 1 n (omega arith), run-padded n 1 some l fit m r 2 n (omega arith))
+
+  pub split-laid : (t : Taps) → t .far ≡ pos 0 → (out : List ℤ) (at : ℕ) {last : List ℤ} → last ≡ overwrite out at n (three t line 0 1 2) → last ≡ overwrite out at n (along t 1 n (λ j. value l (1 + j)))
+  split-laid t z out at p = p ∙ overwrite-cong out at n _ _ (λ k i. ap (λ (x : List ℤ). three t x 0 1 2 k) e ∙ three-along t z n some l fit k i)
+
+module _ {n : ℕ} (some : 1 ≤ n) (l : List ℤ) {line : List ℤ} (fit : 2 + n + 2 ≤ length l) (e : line ≡ padded n 2 l) where
+  pub five-runs : {m : ℕ} → Run m l 2 n → Runs m line 0 1 2 3 4 n
+  five-runs {m} r = subst (λ (x : List ℤ). Runs m x 0 1 2 3 4 n) (sym e) (record {
+    first = run-padded n 2 some l fit m r 0 n (omega arith);
+    second = run-padded n 2 some l fit m r 1 n (omega arith);
+    third = run-padded n 2 some l fit m r 2 n (omega arith);
+    fourth = run-padded n 2 some l fit m r 3 n (omega arith);
+    fifth = run-padded n 2 some l fit m r 4 n (omega arith);
+  })
+
+  pub five-laid : (t : Taps) (k : ℕ) → k < n → five t line 0 1 2 3 4 k ≡ along t 1 n (λ j. value l (2 + j)) k
+  five-laid t k i = ap (λ (x : List ℤ). five t x 0 1 2 3 4 k) e ∙ five-along t n some l fit k i

@@ -1,0 +1,45 @@
+-- The filters along lines that stand in lists: n places one after another, or a line padded on both sides with reflected places.
+-- Assumes nothing.
+use mathlib.Core.List.{List}
+use Prim.Native.Nat.{ℕ, _+_, _≤_, _<_}
+use lib.IntN.{ℤ, pos, natAbs, _+ℤ_, _-ℤ_}
+use lib.ListN.{getD, length}
+use Rattle.integers.specs.Lists.{overwrite}
+use Rattle.border.specs.Border.{reflect}
+use Rattle.filters.specs.Bank.{Taps, weighted, low-join, high-join}
+
+-- the value at place k
+abbrev pub value : List ℤ → ℕ → ℤ
+value l k = getD l k (pos 0)
+
+-- the n places from o on are in the list, and none of their values is farther from 0 than `most`
+pub record Run (most : ℕ) (l : List ℤ) (o n : ℕ) : Type 0 where
+  pub inside : o + n ≤ length l
+  pub small : (k : ℕ) → k < n → natAbs (value l (o + k)) ≤ most
+
+-- five runs of n places, from a, b, c, d and e on
+pub record Runs (m : ℕ) (l : List ℤ) (a b c d e n : ℕ) : Type 0 where
+  pub first : Run m l a n
+  pub second : Run m l b n
+  pub third : Run m l c n
+  pub fourth : Run m l d n
+  pub fifth : Run m l e n
+
+-- three and five lines of one list, from a, b, c, d and e on, through the taps at place k
+unfoldable pub three : Taps → List ℤ → ℕ → ℕ → ℕ → ℕ → ℤ
+three t l a b c k = weighted t (pos 0) (value l (a + k)) (value l (b + k)) (value l (c + k)) (pos 0)
+
+unfoldable pub five : Taps → List ℤ → ℕ → ℕ → ℕ → ℕ → ℕ → ℕ → ℤ
+five t l a b c d e k = weighted t (value l (a + k)) (value l (b + k)) (value l (c + k)) (value l (d + k)) (value l (e + k))
+
+-- five lines of one list through the low join taps, and of another through the high ones
+unfoldable pub joined : List ℤ → List ℤ → ℕ → ℕ → ℕ → ℕ → ℕ → ℕ → ℤ
+joined low high a b c d e k = five low-join low a b c d e k +ℤ five high-join high a b c d e k
+
+-- the place of a padded line's middle that place k of it means: `pad` places stand before a line of n, and `pad` after it
+unfoldable pub meant : ℕ → ℕ → ℕ → ℕ
+meant n pad k = pad + reflect n (pos k -ℤ pos pad)
+
+-- the line of n from place `pad` on, with its reflected places before it and after it
+unfoldable pub padded : ℕ → ℕ → List ℤ → List ℤ
+padded n pad l = overwrite l 0 (pad + n + pad) (λ k. value l (meant n pad k))
