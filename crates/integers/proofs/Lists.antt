@@ -2,7 +2,7 @@
 -- whether two lists are the same. Assumes nothing.
 use mathlib.Core.Path.{_≡_, refl, sym, ap, _∙_, subst}
 use mathlib.Core.Bool.{Bool, true, false, _&&_}
-use mathlib.Core.List.{List, [], _∷_, _++_, append-assoc, append-nil}
+use mathlib.Core.List.{List, [], _∷_, _++_, map, append-assoc, append-nil}
 use mathlib.Core.Logic.{⊎-elim}
 use Prim.Native.Nat.{ℕ, zero, suc, _+_, _-_, _≤_, _<_}
 use native.Mathlib.Decide.{decLt}
@@ -183,6 +183,17 @@ module _ {A : Type 0} where
 
       fit : a + m ≤ length R
       fit = omega (arith, long-r)
+
+-- ---- each element through g
+module _ {A B : Type 0} (g : A → B) where
+  map-append : (l m : List A) → map g (l ++ m) ≡ map g l ++ map g m
+  map-append [] m = refl
+  map-append (x ∷ l) m = ap (λ (t : List B). g x ∷ t) (map-append l m)
+
+  pub map-tabulate : (n : ℕ) (f : ℕ → A) → map g (tabulate n f) ≡ tabulate n (λ k. g (f k))
+  unfolding tabulate
+  map-tabulate zero f = refl
+  map-tabulate (suc n) f = map-append (tabulate n f) (f n ∷ []) ∙ ap (λ (t : List B). t ++ (g (f n) ∷ [])) (map-tabulate n f)
 
 -- ---- the same numbers
 pub same-list-yes : (l m : List ℕ) → l ≡ m → same-list l m ≡ true
