@@ -9,12 +9,24 @@ ghost use Rattle.questions.specs.Questions.{ask, all-at-most};
 ghost use Rattle.turns.specs.Frames.{listing};
 ghost use Rattle.filters.specs.Bank.{split as split-plane, join as join-bands};
 ghost use Rattle.bank.specs.Planes.{Sizes, Plane, plane, bands-of};
-ghost use Rattle.bank.specs.Calls.{bands, values-questions, split-questions, join-questions, SplitResult, JoinResult};
+ghost use Rattle.bank.specs.Calls.{bands, values-questions, split-questions, join-questions, number-of-answer, SplitResult, JoinResult};
 
 // What split and join answer.
 pub enum BankAnswer {
     Accepted,
     Refused(u32),
+}
+
+impl BankAnswer {
+    // Document 01's number of a refusal, or 0.
+    pub fn number(self) -> u32
+        ensures { λ r. ⌜ r ≡ number-of-answer self ⌝ }
+    {
+        match self {
+            BankAnswer::Accepted => 0,
+            BankAnswer::Refused(number) => number,
+        }
+    }
 }
 
 fn larger(a: u32, b: u32) -> u32

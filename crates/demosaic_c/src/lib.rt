@@ -1,7 +1,10 @@
 // What C sees of the engine: thin calls, declared in include/demosaic.h. A slice is a pointer and a length there.
 ghost use mathlib.Core.Path.{_≡_};
-ghost use Rattle.questions.specs.Questions.{ask};
+ghost use Rattle.questions.specs.Questions.{ask, ceiling};
 ghost use Rattle.packet.specs.Calls.{read-questions};
+ghost use Rattle.filters.specs.Bank.{brought-back};
+ghost use Rattle.bank.specs.Calls.{bands};
+ghost use Rattle.demosaic_c.specs.Calls.{SplitNumber, JoinNumber};
 
 // A packet's refusal number by the reader's questions, 0 for sound.
 #[no_mangle]
@@ -9,4 +12,44 @@ pub extern "C" fn demosaic_packet_refusal(store: &[u8]) -> u32
     ensures { λ r. ⌜ r ≡ ask (read-questions (now (store .entry))) ⌝ }
 {
     packet::packet_refusal(store)
+}
+
+// Splits a plane into four bands; 0 or the refusal's number.
+#[no_mangle]
+pub extern "C" fn demosaic_split(
+    width: usize,
+    height: usize,
+    plane: &[i32],
+    band1: &mut [i32],
+    band2: &mut [i32],
+    band3: &mut [i32],
+    band4: &mut [i32],
+) -> u32
+    ensures { λ r. ⌜ SplitNumber width height (now (plane .entry)) (bands (now (band1 .entry)) (now (band2 .entry)) (now (band3 .entry)) (now (band4 .entry))) r (bands (now (band1 .exit)) (now (band2 .exit)) (now (band3 .exit)) (now (band4 .exit))) ⌝ }
+{
+    bank::split(width, height, plane, band1, band2, band3, band4).number()
+}
+
+// Joins four bands into sums; 0 or the refusal's number.
+#[no_mangle]
+pub extern "C" fn demosaic_join(
+    width: usize,
+    height: usize,
+    band1: &[i32],
+    band2: &[i32],
+    band3: &[i32],
+    band4: &[i32],
+    sums: &mut [i32],
+) -> u32
+    ensures { λ r. ⌜ JoinNumber width height (bands (now (band1 .entry)) (now (band2 .entry)) (now (band3 .entry)) (now (band4 .entry))) (now (sums .entry)) r (now (sums .exit)) ⌝ }
+{
+    bank::join(width, height, band1, band2, band3, band4, sums).number()
+}
+
+// A joined sum, brought back.
+#[no_mangle]
+pub extern "C" fn demosaic_bring_back(sum: i32) -> u16
+    ensures { λ r. ⌜ r ≡ brought-back ceiling sum ⌝ }
+{
+    filters::bring_back(sum)
 }
