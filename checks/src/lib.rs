@@ -3,7 +3,9 @@
 //! It follows the document's words and not the engine's code, so that a mistake in one is not a mistake in both. It is slow
 //! and simple: what it answers is compared with what the engine answers.
 
+pub mod bank;
 pub mod border;
+pub mod chance;
 pub mod packet;
 pub mod packet_examples;
 pub mod turns;

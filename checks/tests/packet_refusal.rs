@@ -1,76 +1,11 @@
 //! The C call `demosaic_packet_refusal`, from a C program, answers the reference's number for every store.
 
+use checks::chance::Chance;
 use checks::packet::{self, Fields};
 use std::collections::BTreeMap;
 use std::io::{BufWriter, Write};
 use std::path::{Path, PathBuf};
 use std::process::{Command, Stdio};
-
-/// A generator of plain pseudo-random numbers (xorshift), the same at every run.
-struct Chance(u64);
-
-impl Chance {
-    fn next(&mut self) -> u64 {
-        self.0 ^= self.0 << 13;
-        self.0 ^= self.0 >> 7;
-        self.0 ^= self.0 << 17;
-        self.0
-    }
-
-    /// A number from `least` to `most`, both included.
-    fn between(&mut self, least: u64, most: u64) -> u64 {
-        least + (self.next() >> 16) % (most - least + 1)
-    }
-
-    fn place(&mut self, length: usize) -> usize {
-        self.between(0, length as u64 - 1) as usize
-    }
-
-    fn one_of<T: Copy>(&mut self, choices: &[T]) -> T {
-        choices[self.place(choices.len())]
-    }
-
-    fn bytes(&mut self, count: usize) -> Vec<u8> {
-        (0..count).map(|_| self.next().to_le_bytes()[3]).collect()
-    }
-
-    /// Samples of 0 to 4,095, the limits more often than by chance.
-    fn samples(&mut self, count: usize) -> Vec<u16> {
-        let mut samples = Vec::new();
-        for _ in 0..count {
-            let within = self.between(0, 4095) as u16;
-            samples.push(self.one_of(&[0, 4095, within, within, within, within]));
-        }
-        samples
-    }
-
-    /// Fields in range; width and height are 2 to 9.
-    fn small_fields(&mut self) -> Fields {
-        let within = self.between(0, 4095) as u16;
-        Fields {
-            width: self.between(2, 9) as usize,
-            height: self.between(2, 9) as usize,
-            layout: self.between(0, 3) as u8,
-            rounds: self.between(0, 64) as u8,
-            threshold: self.one_of(&[0, 4095, within, within]),
-        }
-    }
-
-    /// A sound packet of a small frame.
-    fn small_packet(&mut self) -> Vec<u8> {
-        let fields = self.small_fields();
-        let samples = self.samples(fields.width * fields.height);
-        packet::bytes(&fields, &samples)
-    }
-
-    /// The packet after 0 to 20 older bytes.
-    fn after_older_bytes(&mut self, packet: &[u8]) -> Vec<u8> {
-        let count = self.between(0, 20) as usize;
-        let mut store = self.bytes(count);
-        store.extend(packet);
-        store
-    }
-}
 
 /// Stores, each with the name of its kind.
 type Stores = Vec<(&'static str, Vec<u8>)>;

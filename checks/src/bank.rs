@@ -1,0 +1,223 @@
+//! Document 01, "Filter bank".
+
+use crate::border::reflect;
+
+/// The filters' taps in scaled whole numbers, each filter centred.
+const LOW_SPLIT: [i64; 3] = [1, 2, 1];
+const HIGH_SPLIT: [i64; 3] = [1, -2, 1];
+const LOW_JOIN: [i64; 5] = [-1, 2, 6, 2, -1];
+const HIGH_JOIN: [i64; 5] = [1, 2, -6, 2, 1];
+
+/// A value to split lies within ± this, a value to join within ± 16 times this.
+pub const SPLIT_LIMIT: i32 = 8_190;
+pub const JOIN_LIMIT: i32 = 131_040;
+
+/// A plane or a band, row by row. Numbers of 64 bits: nothing overflows.
+struct Plane {
+    width: usize,
+    height: usize,
+    values: Vec<i64>,
+}
+
+impl Plane {
+    fn given(width: usize, height: usize, values: &[i32]) -> Plane {
+        Plane { width, height, values: values.iter().map(|&value| i64::from(value)).collect() }
+    }
+
+    /// What row i, column j holds, reflected where it lies outside.
+    fn at(&self, i: i64, j: i64) -> i64 {
+        self.values[reflect(self.height, i) * self.width + reflect(self.width, j)]
+    }
+
+    /// A plane as large as this one, whose row i, column j holds `held(i, j)`.
+    fn filled(&self, held: impl Fn(i64, i64) -> i64) -> Plane {
+        let mut values = Vec::new();
+        for i in 0..self.height as i64 {
+            for j in 0..self.width as i64 {
+                values.push(held(i, j));
+            }
+        }
+        Plane { values, ..*self }
+    }
+
+    /// The taps run along each row.
+    fn along_rows(&self, taps: &[i64]) -> Plane {
+        self.filled(|i, j| weighted(taps, |k| self.at(i, j + k)))
+    }
+
+    /// The taps run along each column.
+    fn along_columns(&self, taps: &[i64]) -> Plane {
+        self.filled(|i, j| weighted(taps, |k| self.at(i + k, j)))
+    }
+
+    fn plus(&self, other: &Plane) -> Plane {
+        self.filled(|i, j| self.at(i, j) + other.at(i, j))
+    }
+
+    fn copied_to(&self, buffer: &mut [i32]) {
+        for (place, &value) in buffer.iter_mut().zip(&self.values) {
+            *place = i32::try_from(value).unwrap();
+        }
+    }
+}
+
+/// The sum of tap times value, where `value(0)` is the one under the middle tap.
+fn weighted(taps: &[i64], value: impl Fn(i64) -> i64) -> i64 {
+    let reach = taps.len() as i64 / 2;
+    (-reach..=reach).zip(taps).map(|(k, tap)| tap * value(k)).sum()
+}
+
+/// Questions 1 and 2, from 1 for the bank alone.
+fn size_refusal(width: usize, height: usize) -> Option<u32> {
+    if !(1..=2048).contains(&width) {
+        Some(1)
+    } else if !(1..=2048).contains(&height) {
+        Some(2)
+    } else {
+        None
+    }
+}
+
+/// Whether each value lies within −limit..limit, for question 15.
+fn in_range(values: &[i32], limit: i32) -> bool {
+    values.iter().all(|value| (-limit..=limit).contains(value))
+}
+
+/// The split: questions 1, 2, 6 of the plane, 7 of the bands and 15; then it fills the four bands.
+pub fn split(width: usize, height: usize, plane: &[i32], bands: [&mut [i32]; 4]) -> Result<(), u32> {
+    if let Some(number) = size_refusal(width, height) {
+        return Err(number);
+    }
+    if plane.len() != width * height {
+        return Err(6);
+    }
+    if bands.iter().any(|band| band.len() != width * height) {
+        return Err(7);
+    }
+    if !in_range(plane, SPLIT_LIMIT) {
+        return Err(15);
+    }
+    let plane = Plane::given(width, height, plane);
+    let [band1, band2, band3, band4] = bands;
+    plane.along_rows(&LOW_SPLIT).along_columns(&LOW_SPLIT).copied_to(band1);
+    plane.along_rows(&HIGH_SPLIT).along_columns(&LOW_SPLIT).copied_to(band2);
+    plane.along_rows(&LOW_SPLIT).along_columns(&HIGH_SPLIT).copied_to(band3);
+    plane.along_rows(&HIGH_SPLIT).along_columns(&HIGH_SPLIT).copied_to(band4);
+    Ok(())
+}
+
+/// The join: questions 1, 2, 6 of the bands, 7 of the sums and 15; then it fills the sums.
+pub fn join(width: usize, height: usize, bands: [&[i32]; 4], sums: &mut [i32]) -> Result<(), u32> {
+    if let Some(number) = size_refusal(width, height) {
+        return Err(number);
+    }
+    if bands.iter().any(|band| band.len() != width * height) {
+        return Err(6);
+    }
+    if sums.len() != width * height {
+        return Err(7);
+    }
+    if !bands.iter().all(|band| in_range(band, JOIN_LIMIT)) {
+        return Err(15);
+    }
+    let [band1, band2, band3, band4] = bands.map(|band| Plane::given(width, height, band));
+    let joined1 = band1.along_rows(&LOW_JOIN).along_columns(&LOW_JOIN);
+    let joined2 = band2.along_rows(&HIGH_JOIN).along_columns(&LOW_JOIN);
+    let joined3 = band3.along_rows(&LOW_JOIN).along_columns(&HIGH_JOIN);
+    let joined4 = band4.along_rows(&HIGH_JOIN).along_columns(&HIGH_JOIN);
+    joined1.plus(&joined2).plus(&joined3).plus(&joined4).copied_to(sums);
+    Ok(())
+}
+
+/// (s + 512) whole-divided by 1,024, not yet clipped.
+fn whole_divided(sum: i32) -> i64 {
+    (i64::from(sum) + 512).div_euclid(1024)
+}
+
+/// A sum brought back to a sample.
+pub fn bring_back(sum: i32) -> u16 {
+    whole_divided(sum).clamp(0, 4095) as u16
+}
+
+#[cfg(test)]
+mod tests {
+    use super::*;
+
+    /// The four bands of a plane.
+    fn split_of(width: usize, height: usize, plane: &[i32]) -> Result<[Vec<i32>; 4], u32> {
+        let mut bands = [(); 4].map(|_| vec![7; width * height]);
+        split(width, height, plane, bands.each_mut().map(|band| &mut band[..]))?;
+        Ok(bands)
+    }
+
+    /// The sums of four bands.
+    fn join_of(width: usize, height: usize, bands: &[Vec<i32>; 4]) -> Result<Vec<i32>, u32> {
+        let mut sums = vec![7; width * height];
+        join(width, height, bands.each_ref().map(|band| &band[..]), &mut sums)?;
+        Ok(sums)
+    }
+
+    #[test]
+    fn case_d() {
+        let bands = [vec![64, 64, 64], vec![64, -64, 64], vec![0; 3], vec![0; 3]];
+        assert_eq!(split_of(3, 1, &[0, 8, 0]), Ok(bands.clone()));
+        assert_eq!(join_of(3, 1, &bands), Ok(vec![0, 8192, 0]));
+    }
+
+    #[test]
+    fn case_d_as_one_column() {
+        let bands = [vec![64, 64, 64], vec![0; 3], vec![64, -64, 64], vec![0; 3]];
+        assert_eq!(split_of(1, 3, &[0, 8, 0]), Ok(bands.clone()));
+        assert_eq!(join_of(1, 3, &bands), Ok(vec![0, 8192, 0]));
+    }
+
+    #[test]
+    fn one_by_one() {
+        assert_eq!(split_of(1, 1, &[-3]), Ok([vec![-48], vec![0], vec![0], vec![0]]));
+        // the low taps add up to 8, the high ones to 0
+        assert_eq!(join_of(1, 1, &[vec![-48], vec![5], vec![6], vec![7]]), Ok(vec![64 * -48]));
+    }
+
+    /// A spike in the middle of 7 by 7 shows the taps themselves: no reflection reaches it.
+    #[test]
+    fn a_spike_far_from_the_border() {
+        let mut spike = vec![0; 49];
+        spike[24] = 1;
+        let bands = split_of(7, 7, &spike).unwrap();
+        let rows_2_and_3 = bands.map(|band| band[14..28].to_vec());
+        assert_eq!(rows_2_and_3[0], [0, 0, 1, 2, 1, 0, 0, 0, 0, 2, 4, 2, 0, 0]);
+        assert_eq!(rows_2_and_3[1], [0, 0, 1, -2, 1, 0, 0, 0, 0, 2, -4, 2, 0, 0]);
+        assert_eq!(rows_2_and_3[2], [0, 0, 1, 2, 1, 0, 0, 0, 0, -2, -4, -2, 0, 0]);
+        assert_eq!(rows_2_and_3[3], [0, 0, 1, -2, 1, 0, 0, 0, 0, -2, 4, -2, 0, 0]);
+        let rows_1_and_2 = [
+            [0, 1, -2, -6, -2, 1, 0, 0, -2, 4, 12, 4, -2, 0],
+            [0, -1, -2, 6, -2, -1, 0, 0, 2, 4, -12, 4, 2, 0],
+            [0, -1, 2, 6, 2, -1, 0, 0, -2, 4, 12, 4, -2, 0],
+            [0, 1, 2, -6, 2, 1, 0, 0, 2, 4, -12, 4, 2, 0],
+        ];
+        for (k, rows) in rows_1_and_2.iter().enumerate() {
+            let mut bands = [(); 4].map(|_| vec![0; 49]);
+            bands[k] = spike.clone();
+            assert_eq!(join_of(7, 7, &bands).unwrap()[7..21], rows[..], "band {}", k + 1);
+        }
+    }
+
+    #[test]
+    fn brought_back() {
+        assert_eq!([512, 511, -512, -513].map(whole_divided), [1, 0, 0, -1]);
+        assert_eq!([512, 511, -512, -513, i32::MIN].map(bring_back), [1, 0, 0, 0, 0]);
+        let most = 4095 * 1024;
+        assert_eq!([most - 513, most - 512, most + 512, i32::MAX].map(bring_back), [4094, 4095, 4095, 4095]);
+    }
+
+    #[test]
+    fn values_at_their_limits() {
+        for (value, answer) in [(8190, 0), (-8190, 0), (8191, 15), (-8191, 15), (i32::MIN, 15)] {
+            assert_eq!(split_of(2, 1, &[0, value]).err().unwrap_or(0), answer, "{value}");
+        }
+        for (value, answer) in [(131_040, 0), (-131_040, 0), (131_041, 15), (-131_041, 15), (i32::MIN, 15)] {
+            let bands = [vec![0], vec![0], vec![0], vec![value]];
+            assert_eq!(join_of(1, 1, &bands).err().unwrap_or(0), answer, "{value}");
+        }
+    }
+}

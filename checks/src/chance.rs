@@ -1,0 +1,74 @@
+//! What the tests choose by chance.
+
+use crate::packet::{self, Fields};
+
+/// A generator of plain pseudo-random numbers (xorshift), the same at every run.
+pub struct Chance(pub u64);
+
+impl Chance {
+    fn next(&mut self) -> u64 {
+        self.0 ^= self.0 << 13;
+        self.0 ^= self.0 >> 7;
+        self.0 ^= self.0 << 17;
+        self.0
+    }
+
+    /// A number from `least` to `most`, both included.
+    pub fn between(&mut self, least: u64, most: u64) -> u64 {
+        least + (self.next() >> 16) % (most - least + 1)
+    }
+
+    /// A number from −limit to limit, both included.
+    pub fn within(&mut self, limit: i32) -> i32 {
+        (self.between(0, 2 * limit as u64) as i64 - i64::from(limit)) as i32
+    }
+
+    pub fn place(&mut self, length: usize) -> usize {
+        self.between(0, length as u64 - 1) as usize
+    }
+
+    pub fn one_of<T: Copy>(&mut self, choices: &[T]) -> T {
+        choices[self.place(choices.len())]
+    }
+
+    pub fn bytes(&mut self, count: usize) -> Vec<u8> {
+        (0..count).map(|_| self.next().to_le_bytes()[3]).collect()
+    }
+
+    /// Samples of 0 to 4,095, the limits more often than by chance.
+    pub fn samples(&mut self, count: usize) -> Vec<u16> {
+        let mut samples = Vec::new();
+        for _ in 0..count {
+            let within = self.between(0, 4095) as u16;
+            samples.push(self.one_of(&[0, 4095, within, within, within, within]));
+        }
+        samples
+    }
+
+    /// Fields in range; width and height are 2 to 9.
+    pub fn small_fields(&mut self) -> Fields {
+        let within = self.between(0, 4095) as u16;
+        Fields {
+            width: self.between(2, 9) as usize,
+            height: self.between(2, 9) as usize,
+            layout: self.between(0, 3) as u8,
+            rounds: self.between(0, 64) as u8,
+            threshold: self.one_of(&[0, 4095, within, within]),
+        }
+    }
+
+    /// A sound packet of a small frame.
+    pub fn small_packet(&mut self) -> Vec<u8> {
+        let fields = self.small_fields();
+        let samples = self.samples(fields.width * fields.height);
+        packet::bytes(&fields, &samples)
+    }
+
+    /// The packet after 0 to 20 older bytes.
+    pub fn after_older_bytes(&mut self, packet: &[u8]) -> Vec<u8> {
+        let count = self.between(0, 20) as usize;
+        let mut store = self.bytes(count);
+        store.extend(packet);
+        store
+    }
+}

@@ -1,0 +1,92 @@
+//! The filter bank's C calls.
+//!
+//! This is no module of the crate: what links the crate would then need the static library. The test of the bank and the
+//! benchmark take the file in by its path.
+
+#[link(name = "demosaic_c", kind = "static")]
+unsafe extern "C" {
+    fn demosaic_split(
+        width: usize,
+        height: usize,
+        plane: *const i32,
+        plane_len: usize,
+        band1: *mut i32,
+        band1_len: usize,
+        band2: *mut i32,
+        band2_len: usize,
+        band3: *mut i32,
+        band3_len: usize,
+        band4: *mut i32,
+        band4_len: usize,
+    ) -> u32;
+
+    fn demosaic_join(
+        width: usize,
+        height: usize,
+        band1: *const i32,
+        band1_len: usize,
+        band2: *const i32,
+        band2_len: usize,
+        band3: *const i32,
+        band3_len: usize,
+        band4: *const i32,
+        band4_len: usize,
+        sums: *mut i32,
+        sums_len: usize,
+    ) -> u32;
+
+    safe fn demosaic_bring_back(sum: i32) -> u16;
+}
+
+fn answer(number: u32) -> Result<(), u32> {
+    match number {
+        0 => Ok(()),
+        refusal => Err(refusal),
+    }
+}
+
+pub fn split(width: usize, height: usize, plane: &[i32], bands: [&mut [i32]; 4]) -> Result<(), u32> {
+    let [band1, band2, band3, band4] = bands;
+    // each pointer and length are those of one slice, and no slice that is written overlaps another
+    answer(unsafe {
+        demosaic_split(
+            width,
+            height,
+            plane.as_ptr(),
+            plane.len(),
+            band1.as_mut_ptr(),
+            band1.len(),
+            band2.as_mut_ptr(),
+            band2.len(),
+            band3.as_mut_ptr(),
+            band3.len(),
+            band4.as_mut_ptr(),
+            band4.len(),
+        )
+    })
+}
+
+pub fn join(width: usize, height: usize, bands: [&[i32]; 4], sums: &mut [i32]) -> Result<(), u32> {
+    let [band1, band2, band3, band4] = bands;
+    // as in the split
+    answer(unsafe {
+        demosaic_join(
+            width,
+            height,
+            band1.as_ptr(),
+            band1.len(),
+            band2.as_ptr(),
+            band2.len(),
+            band3.as_ptr(),
+            band3.len(),
+            band4.as_ptr(),
+            band4.len(),
+            sums.as_mut_ptr(),
+            sums.len(),
+        )
+    })
+}
+
+pub fn bring_back(sum: i32) -> u16 {
+    demosaic_bring_back(sum)
+}
