@@ -3,21 +3,29 @@
 use mathlib.Core.Path.{_≡_, refl, sym, _∙_, ap, subst}
 use mathlib.Core.Bool.{true}
 use mathlib.Core.List.{List, map}
-use Prim.Native.Nat.{ℕ, _*_, _≤_, _<_}
+use Prim.Native.Nat.{ℕ, _+_, _*_, _/_, _%_, _≤_, _<_}
+use native.Mathlib.Nat.{div-add-mod'}
 use native.Mathlib.Omega.{arith}
-use lib.IntN.{ℤ, pos, natAbs}
+use lib.Dec.{eqb}
+use lib.IntN.{ℤ, pos, natAbs, _*ℤ_}
 use lib.ListN.{length}
-use borrow.Author.Tests.{eqb-true}
+use borrow.Author.Tests.{eq-eqb, eqb-true}
 use Rattle.integers.specs.Lists.{tabulate}
-use Rattle.integers.proofs.Tests.{true-is}
-use Rattle.integers.proofs.Lists.{length-tabulate, getD-tabulate, tabulate-getD, map-tabulate}
+use Rattle.integers.proofs.Tests.{is-true, true-is}
+use Rattle.integers.proofs.Lists.{length-tabulate, getD-tabulate, tabulate-cong, tabulate-getD, map-tabulate}
 use Rattle.questions.specs.Questions.{ask, all-at-most, size-questions}
-use Rattle.questions.proofs.Asking.{AllYes, all-yes, all-yes-split, between-is, area-bound, all-at-most-at}
+use Rattle.questions.proofs.Asking.{AllYes, all-yes, all-yes-split, ask-zero, between-yes, between-is, area-bound, all-at-most-at, all-at-most-by}
 use Rattle.questions.proofs.Answering.{answer-no, answer-yes, left-no, left-yes}
-use Rattle.filters.specs.Bank.{Bands}
+use Rattle.turns.specs.Frames.{listing, plane-of}
+use Rattle.turns.proofs.Frames.{row-inside, column-inside, place-inside, length-listing, plane-of-listing, listing-agree}
+use Rattle.filters.specs.Bank.{Bands, split}
+use Rattle.filters.proofs.Reconstruction.{reconstruct}
+use Rattle.filters.proofs.Ranges.{split-range}
+use Rattle.filters.proofs.Turned.{join-commutes}
 use Rattle.lines.specs.Lines.{value}
-use Rattle.bank.specs.Planes.{Sizes, Plane}
-use Rattle.bank.specs.Calls.{lengths, to-split, to-join, split-rest, split-questions, join-rest, join-questions, number-of-answer, split-lists, join-list, SplitResult, JoinResult}
+use Rattle.bank.specs.Planes.{Sizes, Plane, plane, bands-of}
+use Rattle.bank.specs.Calls.{bands, lengths, to-split, to-join, split-rest, split-questions, join-rest, join-questions, number-of-answer, split-lists, join-list, SplitResult, JoinResult}
+use Rattle.bank.specs.declared.BankAnswer.{BankAnswer}
 use Rattle.bank.specs.declared.BankAnswer.the-variants.{Accepted, Refused}
 
 -- ---- what an accepted call knows
@@ -111,3 +119,103 @@ module _ (w h : ℕ) (given : Bands (List ℤ)) (before : List ℤ) (n : ℕ) (e
     answer = answer-yes number-of-answer (join-questions w h given (length before)) Accepted Accepted n e z refl refl;
     buffer = p ∙ left-yes (join-questions w h given (length before)) (join-list w h given) before n e z;
   }
+
+-- ---- demand 2, of the calls: what join leaves after split is 1,024 times the plane
+-- a plane's values in range answer 15 yes
+values-yes : (most : ℕ) (l : List ℤ) (n : ℕ) → length l ≡ n → ((k : ℕ) → k < n → natAbs (value l k) ≤ most) → all-at-most most (map natAbs l) ≡ true
+values-yes most l n e b =
+    ap (all-at-most most) (magnitudes l n e)
+    ∙ is-true (all-at-most most (tabulate n (λ k. natAbs (value l k)))) (all-at-most-by most (tabulate n (λ k. natAbs (value l k)))
+    (λ k h. let i : k < n = omega (arith, length-tabulate n (λ j. natAbs (value l j)), h) in subst (λ (x : ℕ). x ≤ most) (sym (getD-tabulate n (λ j. natAbs (value l j)) k 0 i)) (b k i)))
+
+-- a list through `1,024 times` is the listing of that plane
+times-listing : (w h : ℕ) (l : List ℤ) → length l ≡ w * h → listing w h (λ r c. pos 1024 *ℤ plane w l r c) ≡ map (λ z. pos 1024 *ℤ z) l
+unfolding listing plane-of
+times-listing w h l e =
+    tabulate-cong (w * h) _ _ (λ k b. ap (λ (i : ℕ). pos 1024 *ℤ value l i) (div-add-mod' k w))
+    ∙ sym (map-tabulate (λ z. pos 1024 *ℤ z) (w * h) (value l)) ∙ ap (map (λ z. pos 1024 *ℤ z)) (tabulate-getD l (w * h) (pos 0) e)
+
+module _ (w h : ℕ) (given : List ℤ) (z : Sizes w h) (p : Plane to-split given w h) where
+  -- every value of every band may be joined
+  bands-small : (r c : ℕ) → r < h → c < w
+      → let s = split 1 w h (plane w given) r c in (natAbs (s .band1) ≤ to-join) × (natAbs (s .band2) ≤ to-join) × (natAbs (s .band3) ≤ to-join) × (natAbs (s .band4) ≤ to-join)
+  unfolding plane-of
+  bands-small r c hr hc = split-range 1 w h to-split (z .width-from) (z .height-from) (plane w given) (λ i j hi hj. p .small (i * w + j) (place-inside hi hj)) r c hr hc
+
+  band-yes : (f : Bands ℤ → ℤ) → ((r c : ℕ) → r < h → c < w → natAbs (f (split 1 w h (plane w given) r c)) ≤ to-join) → all-at-most to-join (map natAbs (listing w h (λ r c. f (split 1 w h (plane w given) r c)))) ≡ true
+  unfolding listing
+  band-yes f b =
+      values-yes to-join (tabulate (w * h) q) (w * h) (length-tabulate (w * h) q)
+      (λ k i. subst (λ (x : ℤ). natAbs x ≤ to-join) (sym (getD-tabulate (w * h) q k (pos 0) i)) (b (k / w) (k % w) (row-inside w h k i) (column-inside w h k i)))
+    where
+      q : ℕ → ℤ
+      q k = f (split 1 w h (plane w given) (k / w) (k % w))
+
+  -- so join accepts them
+  join-accepts : (room : ℕ) → room ≡ w * h → ask (join-questions w h (split-lists w h given) room) ≡ 0
+  unfolding split-lists
+  join-accepts room e =
+      ask-zero (join-questions w h (split-lists w h given) room) (
+        between-yes 1 2048 w (z .width-from) (z .width-to),
+        (
+          between-yes 1 2048 h (z .height-from) (z .height-to),
+          (
+            long _,
+            (
+              long _,
+              (
+                long _,
+                (
+                  long _,
+                  (
+                    eq-eqb room (w * h) e,
+                    (
+                      band-yes (λ s. s .band1) (λ r c hr hc. bands-small r c hr hc .0),
+                      (
+                        band-yes (λ s. s .band2) (λ r c hr hc. bands-small r c hr hc .1),
+                        (band-yes (λ s. s .band3) (λ r c hr hc. bands-small r c hr hc .2), (band-yes (λ s. s .band4) (λ r c hr hc. bands-small r c hr hc .3), tt)),
+                      ),
+                    ),
+                  ),
+                ),
+              ),
+            ),
+          ),
+        ),
+      )
+    where
+      long : (q : ℕ → ℕ → ℤ) → eqb (length (listing w h q)) (w * h) ≡ true
+      long q = eq-eqb (length (listing w h q)) (w * h) (length-listing w h q)
+
+  joined-again : join-list w h (split-lists w h given) ≡ map (λ x. pos 1024 *ℤ x) given
+  unfolding split-lists join-list
+  joined-again =
+      listing-agree w h (λ r c hr hc. join-commutes 1 .agrees w h 0 (bands-of w (split-lists w h given)) (split 1 w h (plane w given)) held r c hr hc ∙ reconstruct w h (z .width-from) (z .height-from) 1 (plane w given) r c hr hc)
+      ∙ times-listing w h given (p .count)
+    where
+      held : (r c : ℕ) → r < h → c < w → bands-of w (split-lists w h given) r c ≡ split 1 w h (plane w given) r c
+      held r c hr hc = λ m. bands (at (λ s. s .band1) m) (at (λ s. s .band2) m) (at (λ s. s .band3) m) (at (λ s. s .band4) m)
+        where
+          at : (f : Bands ℤ → ℤ) → plane w (listing w h (λ i j. f (split 1 w h (plane w given) i j))) r c ≡ f (split 1 w h (plane w given) r c)
+          at f = plane-of-listing (pos 0) w h (λ i j. f (split 1 w h (plane w given) i j)) r c hr hc
+
+-- Where split is accepted and the sums have room, join of what split leaves is accepted, and leaves 1,024 times the plane.
+pub split-then-join : (w h : ℕ) (given : List ℤ) (before : Bands (List ℤ)) (r : BankAnswer) (after : Bands (List ℤ)) → SplitResult w h given before r after → number-of-answer r ≡ 0
+    → (sums : List ℤ) (s : BankAnswer) (last : List ℤ) → JoinResult w h after sums s last → length sums ≡ w * h
+    → (number-of-answer s ≡ 0) × (last ≡ map (λ x. pos 1024 *ℤ x) given)
+split-then-join w h given before r after p z sums s last q e = (number ∙ accepts, left ∙ joined-again w h given (k .sizes) (k .plane))
+  where
+    k : Splittable w h given (lengths before)
+    k = splittable w h given (lengths before) (number-of-answer r) (p .answer .number) z
+
+    laid : split-lists w h given ≡ after
+    laid = left-yes (split-questions w h given (lengths before)) (split-lists w h given) before (number-of-answer r) (p .answer .number) z ∙ sym (p .buffers)
+
+    accepts : ask (join-questions w h after (length sums)) ≡ 0
+    accepts = ap (λ (b : Bands (List ℤ)). ask (join-questions w h b (length sums))) (sym laid) ∙ join-accepts w h given (k .sizes) (k .plane) (length sums) e
+
+    number : number-of-answer s ≡ ask (join-questions w h after (length sums))
+    number = q .answer .number
+
+    left : last ≡ join-list w h (split-lists w h given)
+    left = q .buffer ∙ sym (left-yes (join-questions w h after (length sums)) (join-list w h after) sums 0 (sym accepts) refl) ∙ ap (join-list w h) (sym laid)

@@ -1,5 +1,5 @@
 -- Split and join commute with every turn; at an exchange bands 2 and 3 change places. Assumes nothing.
-use mathlib.Core.Path.{_≡_, sym, _∙_, ap}
+use mathlib.Core.Path.{_≡_, refl, sym, _∙_, ap, subst}
 use mathlib.Core.Bool.{Bool}
 use mathlib.Core.List.{[], _∷_}
 use Prim.Native.Nat.{ℕ}
@@ -7,7 +7,8 @@ use lib.IntN.{ℤ, pos, negℤ, _+ℤ_, +ℤ-assoc, +ℤ-idr, negℤ-+ℤ}
 use Rattle.integers.proofs.Linear.{linear, x₀, x₁, x₂, x₃, _⊕_}
 use Rattle.border.specs.Border.{reflect}
 use Rattle.turns.specs.Operations.{Around, nearby}
-use Rattle.turns.proofs.Commuting.{Commutes, same, commutes-by, nearby-commutes}
+use Rattle.turns.specs.Pictures.{Picture, turned, _≈_}
+use Rattle.turns.proofs.Commuting.{Commutes, same, commutes-by, nearby-commutes, apply, turned-with, turned-same, apply-turned-with}
 use Rattle.filters.specs.Bank.{Taps, tap, along, along-rows, along-columns, filtered, Bands, split, join, low-split, high-split, low-join, high-join}
 use Rattle.filters.proofs.Taps.{tap-cong, tap-moved, tap-turned, tap-tap}
 
@@ -87,3 +88,18 @@ join-commutes d =
     (λ x y n. λ m.
     around-mirror low-join low-join d (λ i j. n i j .band1) m +ℤ around-mirror high-join low-join d (λ i j. n i j .band2) m
     +ℤ around-mirror low-join high-join d (λ i j. n i j .band3) m +ℤ around-mirror high-join high-join d (λ i j. n i j .band4) m))
+
+-- ---- every turn: the bands of a turned plane are its bands turned, and the joined sums of turned bands the sums turned
+exchange-twice : (b : Bands ℤ) → exchange-bands (exchange-bands b) ≡ b
+unfolding exchange-bands
+exchange-twice b = refl
+
+pub split-turned : (d t : ℕ) (p : Picture ℤ) → apply (λ w h l q. split d w h q) (turned t p) ≈ turned-with exchange-bands t (apply (λ w h l q. split d w h q) p)
+split-turned d t p =
+    subst (λ (q : Picture ℤ). apply (λ w h l x. split d w h x) q ≈ turned-with exchange-bands t (apply (λ w h l x. split d w h x) p)) (turned-same t p)
+    (apply-turned-with (split-commutes d) (λ z. refl) exchange-twice t p)
+
+pub join-turned : (d t : ℕ) (b : Picture (Bands ℤ)) → apply (λ w h l q. join d w h q) (turned-with exchange-bands t b) ≈ turned t (apply (λ w h l q. join d w h q) b)
+join-turned d t b =
+    subst (λ (q : Picture ℤ). apply (λ w h l x. join d w h x) (turned-with exchange-bands t b) ≈ q) (turned-same t (apply (λ w h l x. join d w h x) b))
+    (apply-turned-with (join-commutes d) exchange-twice (λ z. refl) t b)

@@ -131,7 +131,31 @@ module _ {A B : Type 0} (τ : A → A) (υ : B → B) (g : Bool → Bool → Aro
 unfoldable pub apply : {A B : Type 0} → Operation A B → Picture A → Picture B
 apply F p = record { width = p .width; height = p .height; layout = p .layout; at = F (p .width) (p .height) (p .layout) (p .at) }
 
-module _ {A B : Type 0} {F : Operation A B} (f : Commutes same same F) where
+-- the values of a picture, each through g
+abbrev pub each : {A : Type 0} → (A → A) → Picture A → Picture A
+each g p = record { width = p .width; height = p .height; layout = p .layout; at = λ r c. g (p .at r c) }
+
+each-≈ : {A : Type 0} (g : A → A) {p q : Picture A} → p ≈ q → each g p ≈ each g q
+each-≈ g e = record { widths = e .widths; heights = e .heights; layouts = e .layouts; places = λ r c hr hc. ap g (e .places r c hr hc) }
+
+-- a turned picture whose values change by g at an exchange
+unfoldable pub turned-with : {A : Type 0} → (A → A) → ℕ → Picture A → Picture A
+turned-with g t p = turned t (if-so (steps-of t .exchange) (each g) p)
+
+pub turned-same : {A : Type 0} (t : ℕ) (p : Picture A) → turned-with same t p ≡ turned t p
+unfolding turned-with
+turned-same t p = ap (turned t) (go (steps-of t .exchange))
+  where
+    go : (b : Bool) → if-so b (each same) p ≡ p
+    go true = refl
+    go false = refl
+
+-- a top-bottom mirror by two exchanges, where g changes nothing if done twice
+top-bottom-with : {A : Type 0} (g : A → A) → ((a : A) → g (g a) ≡ a) → (p : Picture A) → top-bottom p ≈ exchanged (each g (left-right (exchanged (each g p))))
+top-bottom-with g twice p =
+    ≈-trans (top-bottom-is p) (unfold exchanged left-right in (record { widths = refl; heights = refl; layouts = refl; places = λ r c hr hc. sym (twice _) }))
+
+module _ {A B : Type 0} {τ : A → A} {υ : B → B} {F : Operation A B} (f : Commutes τ υ F) (τ-twice : (a : A) → τ (τ a) ≡ a) (υ-twice : (b : B) → υ (υ b) ≡ b) where
   pub apply-≈ : {p q : Picture A} → p ≈ q → apply F p ≈ apply F q
   unfolding apply
   apply-≈ {p} {q} e = record {
@@ -141,7 +165,7 @@ module _ {A B : Type 0} {F : Operation A B} (f : Commutes same same F) where
     places = λ r c hr hc. f .agrees (p .width) (p .height) (p .layout) (p .at) (q .at) (e .places) r c hr hc ∙ (λ i. F (e .widths i) (e .heights i) (e .layouts i) (q .at) r c);
   }
 
-  apply-exchanged : (p : Picture A) → apply F (exchanged p) ≈ exchanged (apply F p)
+  apply-exchanged : (p : Picture A) → apply F (exchanged (each τ p)) ≈ exchanged (each υ (apply F p))
   unfolding apply exchanged
   apply-exchanged p = record { widths = refl; heights = refl; layouts = refl; places = λ r c hr hc. f .exchange (p .width) (p .height) (p .layout) (p .at) r c hr hc }
 
@@ -151,20 +175,30 @@ module _ {A B : Type 0} {F : Operation A B} (f : Commutes same same F) where
 
   apply-top-bottom : (p : Picture A) → apply F (top-bottom p) ≈ top-bottom (apply F p)
   apply-top-bottom p =
-      ≈-trans (apply-≈ (top-bottom-is p))
-      (≈-trans (apply-exchanged (left-right (exchanged p)))
-      (≈-trans (exchanged-≈ (≈-trans (apply-left-right (exchanged p)) (left-right-≈ (apply-exchanged p))))
-      (≈-sym (top-bottom-is (apply F p)))))
+      ≈-trans (apply-≈ (top-bottom-with τ τ-twice p))
+      (≈-trans (apply-exchanged (left-right (exchanged (each τ p))))
+      (≈-trans (exchanged-≈ (each-≈ υ (≈-trans (apply-left-right (exchanged (each τ p))) (left-right-≈ (apply-exchanged p)))))
+      (≈-sym (top-bottom-with υ υ-twice (apply F p)))))
 
   if-applied : (b : Bool) (S : Picture A → Picture A) (U : Picture B → Picture B) → ((p q : Picture B) → p ≈ q → U p ≈ U q) → ((p : Picture A) → apply F (S p) ≈ U (apply F p))
       → (p : Picture A) (q : Picture B) → apply F p ≈ q → apply F (if-so b S p) ≈ if-so b U q
   if-applied true S U u n p q e = ≈-trans (n p) (u (apply F p) q e)
   if-applied false S U u n p q e = e
 
+  if-exchanged : (b : Bool) (p : Picture A) → apply F (if-so b exchanged (if-so b (each τ) p)) ≈ if-so b exchanged (if-so b (each υ) (apply F p))
+  if-exchanged true p = apply-exchanged p
+  if-exchanged false p = ≈-refl (apply F p)
+
   -- doing it to the turned picture is turning what it makes of the picture
-  pub apply-turned : (t : ℕ) (p : Picture A) → apply F (turned t p) ≈ turned t (apply F p)
-  unfolding turned turned-by
-  apply-turned t p =
+  pub apply-turned-with : (t : ℕ) (p : Picture A) → apply F (turned-with τ t p) ≈ turned-with υ t (apply F p)
+  unfolding turned-with turned turned-by
+  apply-turned-with t p =
       if-applied (steps-of t .mirror-top-bottom) top-bottom top-bottom (λ p q. top-bottom-≈) apply-top-bottom _ _
       (if-applied (steps-of t .mirror-left-right) left-right left-right (λ p q. left-right-≈) apply-left-right _ _
-      (if-applied (steps-of t .exchange) exchanged exchanged (λ p q. exchanged-≈) apply-exchanged p (apply F p) (≈-refl (apply F p))))
+      (if-exchanged (steps-of t .exchange) p))
+
+-- and where no value changes
+pub apply-turned : {A B : Type 0} {F : Operation A B} → Commutes same same F → (t : ℕ) (p : Picture A) → apply F (turned t p) ≈ turned t (apply F p)
+apply-turned {A} {B} {F} f t p =
+    subst (λ (q : Picture A). apply F q ≈ turned t (apply F p)) (turned-same t p)
+    (subst (λ (q : Picture B). apply F (turned-with same t p) ≈ q) (turned-same t (apply F p)) (apply-turned-with f (λ a. refl) (λ b. refl) t p))
