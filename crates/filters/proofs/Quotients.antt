@@ -4,14 +4,16 @@ use mathlib.Core.Bool.{true, false}
 use mathlib.Core.List.{[], _∷_}
 use Prim.Native.Nat.{ℕ, zero, suc, _+_, _/_, _≤_, _<_}
 use native.Mathlib.Omega.{arith}
-use lib.Dec.{T, lit<}
+use lib.Dec.{T, ltb, ltb→lt, lit<}
 use lib.IntN.{ℤ, pos, negsuc, negℤ, natAbs, _+ℤ_, _-ℤ_}
 use lib.Signed.{ltZ, mag, nonNeg, quotZ}
+use mir.Syntax.{w32}
+use mir.Val.{SFits}
 use borrow.Author.Tests.{le-ltb}
 use Rattle.integers.specs.Numbers.{whole-divided, rounded, clamp}
 use Rattle.integers.proofs.Tests.{never}
 use Rattle.integers.proofs.Linear.{linear, number, x₀, neg, _⊕_, _⊖_}
-use Rattle.integers.proofs.Bounds.{abs-minus, minus-pos}
+use Rattle.integers.proofs.Bounds.{abs-minus, minus-pos, fits-abs}
 use Rattle.integers.proofs.Rounding.{whole-divided-next}
 use Rattle.filters.specs.Bank.{brought-back}
 
@@ -37,13 +39,22 @@ divided-from (pos m) t = refl
 divided-from (negsuc m) t = never t
 
 -- no difference or sum leaves the 32 bits
+pub record Positive (z : ℤ) : Type 0 where
+  pub sign : T (nonNeg z)
+  pub from : 1 ≤ natAbs z
+  pub to : natAbs z < 2147483648
+
+abbrev pub positive : (k : ℕ) → T (ltb 0 k) → T (ltb k 2147483648) → Positive (pos k)
+positive k f t = record { sign = tt; from = ltb→lt 0 k f; to = ltb→lt k 2147483648 t }
+
 pub turned-over-small : (n : ℤ) → ltZ n (pos 0) ≡ true → mag n < 2147483648 → natAbs (negsuc 0 -ℤ n) < 2147483648
 turned-over-small (pos m) t h = not-below m t
 turned-over-small (negsuc m) t h = omega (arith, ap natAbs (turned-over m))
 
-pub raised-small : (n : ℤ) → ltZ n (pos 0) ≡ true → mag n < 2147483648 → natAbs (n +ℤ pos 512) < 2147483648
-raised-small (pos m) t h = not-below m t
-raised-small (negsuc m) t h = omega (arith, abs-minus 512 (suc m))
+pub raised-fits : (n : ℤ) → ltZ n (pos 0) ≡ true → mag n < 2147483648 → (z : ℤ) → Positive z → SFits w32 (n +ℤ z)
+raised-fits (pos m) t h z p = not-below m t
+raised-fits (negsuc m) t h (pos k) p = fits-abs w32 (negsuc m +ℤ pos k) (omega (arith, abs-minus k (suc m), p .from, p .to))
+raised-fits (negsuc m) t h (negsuc k) p = absurd (p .sign)
 
 pub lowered-small : (n : ℤ) → ltZ n (pos 0) ≡ false → mag n < 2147483648 → natAbs (n -ℤ pos 512) < 2147483648
 lowered-small (pos m) t h = omega (arith, abs-minus m 512)

@@ -1,6 +1,6 @@
 -- Tests that compute: what holds where one passed, and a fact of every number below a bound by one computed test.
 -- Assumes nothing.
-use mathlib.Core.Path.{_≡_, refl, sym, ap, subst}
+use mathlib.Core.Path.{_≡_, refl, sym, ap, _∙_, subst}
 use mathlib.Core.Bool.{Bool, true, false, cond, not, _&&_}
 use mathlib.Core.Logic.{_⊎_, inl, inr}
 use Prim.Native.Nat.{ℕ, zero, suc, _<_}
@@ -24,6 +24,10 @@ true-is e = subst T (sym e) tt
 pub not-is : (b c : Bool) → not b ≡ c → b ≡ not c
 not-is true c e = ap not e
 not-is false c e = ap not e
+
+-- what a callee answered, tested by `!`
+pub tested : {r b : Bool} (v : Bool) → r ≡ b → not r ≡ v → b ≡ not v
+tested {r} v e f = sym e ∙ not-is r v f
 
 pub never {ℓ} : {X : Type ℓ} → true ≡ false → X
 never e = absurd (let z : _≡_ {A = ℕ} 0 1 = ap (λ (b : Bool). cond b 0 1) e in omega arith)

@@ -1,12 +1,15 @@
 -- `bank::join_row` meets its contract: the columns' filters lay down two lines, and the rows' filters along them the sums.
 -- Assumes nothing.
 use mathlib.Core.Path.{ap}
+use mathlib.Core.List.{List}
 use Prim.Native.Nat.{ℕ, _+_, _*_, _≤_}
 use native.Mathlib.Omega.{arith}
+use lib.IntN.{ℤ}
 use lib.ListN.{length}
 use denote.Ref.{now}
 use borrow.Author.Needs.{needs}
 use Rattle.turns.proofs.Frames.{row-room}
+use Rattle.lines.specs.Lines.{Runs}
 use Rattle.bank.specs.Calls.{bands}
 use Rattle.bank.proofs.Rows.{row-small, NearFive, five-rows, joined-run, sums-laid}
 use Rattle.bank.proofs.join_row.Statement.{statement}
@@ -69,17 +72,27 @@ low-room s = omega arith
 high-room : (s : tie.Start) → 2 + s .args .width ≤ length (now (s .args .high))
 high-room s = omega arith
 
+-- five rows of each band
+abbrev Five : tie.Start → ℕ → ℕ → ℕ → ℕ → List ℤ → Type 0
+Five s a b d e l = Runs 67108864 l a b (s .args .r * s .args .width) d e (s .args .width)
+
+rows : (s : tie.Start) {a b d e : ℕ} → NearFive (s .args .width) (s .args .height) (s .args .r) a b d e
+    → Five s a b d e (now (s .args .band1)) × Five s a b d e (now (s .args .band2)) × Five s a b d e (now (s .args .band3)) × Five s a b d e (now (s .args .band4))
+rows s n =
+    let z = s .pre .0 in
+    (five-rows n (z .2) 67108864 (omega arith), five-rows n (z .3) 67108864 (omega arith), five-rows n (z .4) 67108864 (omega arith), five-rows n (z .5) 67108864 (omega arith))
+
 join-lines-requires : tie.Need-join-lines-requires
 join-lines-requires c κs =
     let s = c .before .before .before .before .before in
-    let n = near (c .before) in
-    ((five-rows n (s .pre .0 .2) 67108864 (omega arith), five-rows n (s .pre .0 .4) 67108864 (omega arith)), omega arith)
+    let r = rows s (near (c .before)) in
+    search needs
 
 join-lines-requires-2 : tie.Need-join-lines-requires-2
 join-lines-requires-2 c κs =
     let s = c .before .before .before .before .before .before .before .before in
-    let n = near (c .before .before .before .before) in
-    ((five-rows n (s .pre .0 .3) 67108864 (omega arith), five-rows n (s .pre .0 .5) 67108864 (omega arith)), omega arith)
+    let r = rows s (near (c .before .before .before .before)) in
+    search needs
 
 join-along-requires : tie.Need-join-along-requires
 join-along-requires c κs =

@@ -1,15 +1,13 @@
 -- `bank::split_refusal` meets its contract: 1 and 2, then 6, 7 and 15.
 -- Assumes nothing.
-use mathlib.Core.Path.{_≡_, sym, _∙_}
-use mathlib.Core.Bool.{Bool, true, false, not}
-use mathlib.Core.List.{map}
+use mathlib.Core.Path.{_≡_}
+use mathlib.Core.Bool.{true, false}
 use Prim.Native.Nat.{ℕ, _*_}
 use native.Mathlib.Omega.{arith}
-use lib.IntN.{natAbs}
 use denote.Ref.{now}
 use borrow.Author.Needs.{needs}
-use Rattle.integers.proofs.Tests.{not-is}
-use Rattle.questions.specs.Questions.{ask, all-at-most, size-questions}
+use Rattle.integers.proofs.Tests.{tested}
+use Rattle.questions.specs.Questions.{ask, size-questions}
 use Rattle.questions.proofs.Asking.{asking, ask-first, ask-later, AllYes, all-yes}
 use Rattle.bank.specs.Calls.{bands, split-rest, split-questions}
 use Rattle.bank.proofs.Calls.{sizes-is}
@@ -55,18 +53,14 @@ returns-6 c = rest (c .before .before .before .before .before) _ (search asking 
 values-within-requires : tie.Need-values-within-requires
 values-within-requires c κs = search needs
 
--- the scan's answer, where it was tested
-scanned : (c : tie.After-values-within) (v : Bool) → not (c .values-within .result) ≡ v → all-at-most 8190 (map natAbs (now (c .before .before .before .before .before .before .before .before .args .given))) ≡ not v
-scanned c v e = sym (c .values-within .ensures) ∙ not-is (c .values-within .result) v e
-
 returns-7 : tie.Need-returns-7
 returns-7 c =
-    let above = scanned (c .before) true (c .if7 .taken) in
+    let above = tested true (c .before .values-within .ensures) (c .if7 .taken) in
     rest (c .before .before .before .before .before .before .before) _ (search asking depth 24)
 
 returns-8 : tie.Need-returns-8
 returns-8 c =
-    let within = scanned (c .before) false (c .if7 .left) in
+    let within = tested false (c .before .values-within .ensures) (c .if7 .left) in
     rest (c .before .before .before .before .before .before .before) _ (search asking depth 24)
 
 pub split-refusal-spec : {M : Type 1} → statement M

@@ -10,8 +10,8 @@ use mir.Val.{toZ, ofZ}
 use mir.Facts.{toZ-ofZ as back}
 use borrow.Author.Needs.{needs}
 use Rattle.integers.specs.Numbers.{whole-divided, rounded}
-use Rattle.integers.proofs.Bounds.{abs-add, abs-read, fits-abs, read-is, read-bound}
-use Rattle.filters.proofs.Quotients.{raised-small, lowered-small, divided-small, rounded-from}
+use Rattle.integers.proofs.Bounds.{abs-read, fits, fits-abs, bounds, read-is, read-bound}
+use Rattle.filters.proofs.Quotients.{positive, raised-fits, lowered-small, divided-small, rounded-from}
 use Rattle.filters.proofs.rounded_quotient.Statement.{statement}
 use Rattle.filters.proofs.rounded_quotient.Tie as tie
 
@@ -26,26 +26,22 @@ small : (s : tie.Start) → mag (R s) < 2147483648
 small s = subst (λ (z : ℤ). mag z < 2147483648) (sym (same s)) (s .fits .sum .sfits)
 
 add-whole-divided : tie.Need-add-whole-divided
-add-whole-divided c = fits-abs w32 (R (c .before) +ℤ pos 512) (raised-small (R (c .before)) (c .if1 .taken) (small (c .before)))
+add-whole-divided c = raised-fits (R (c .before)) (c .if1 .taken) (small (c .before)) _ (positive _ tt tt)
 
 whole-divided-requires : tie.Need-whole-divided-requires
 whole-divided-requires c κs = search needs
 
-lowered : (c : tie.Else1) → natAbs (R (c .before) -ℤ pos 512) < 2147483648
-lowered c = lowered-small (R (c .before)) (c .if1 .left) (small (c .before))
-
 sub-whole-divided : tie.Need-sub-whole-divided
-sub-whole-divided c = fits-abs w32 (R (c .before) -ℤ pos 512) (lowered c)
+sub-whole-divided c = fits-abs w32 (R (c .before) -ℤ pos 512) (lowered-small (R (c .before)) (c .if1 .left) (small (c .before)))
 
 whole-divided-requires-2 : tie.Need-whole-divided-requires-2
 whole-divided-requires-2 c κs = search needs
 
 add-result : tie.Need-add-result
 add-result c =
-    let z = R (c .before .before) -ℤ pos 512 in
-    let q = c .whole-divided2 .result in
-    let h : natAbs (toZ w32 (ofZ w32 q)) ≤ 2097152 = read-bound w32 (c .whole-divided2 .ensures) (divided-small (toZ w32 (ofZ w32 z)) (omega (arith, abs-read w32 z, lowered (c .before)))) in
-    fits-abs w32 (toZ w32 (ofZ w32 q) +ℤ pos 1) (omega (arith, abs-add (toZ w32 (ofZ w32 q)) (pos 1), h))
+    let h = small (c .before .before) in
+    let q : natAbs (toZ w32 (ofZ w32 (c .whole-divided2 .result))) ≤ 2097152 = read-bound w32 (c .whole-divided2 .ensures) (divided-small (toZ w32 (ofZ w32 (R (c .before .before) -ℤ pos 512))) (omega (arith, abs-read w32 (R (c .before .before) -ℤ pos 512), lowered-small (R (c .before .before)) (c .before .if1 .left) h))) in
+    fits (search bounds depth 14) tt
 
 returns : tie.Need-returns
 unfolding rounded

@@ -14,7 +14,7 @@ use mir.Facts.{toZ-ofZ as back}
 use borrow.Author.Needs.{needs}
 use Rattle.integers.specs.Lists.{overwrite}
 use Rattle.integers.proofs.Lists.{overwrite-none, overwrite-step}
-use Rattle.integers.proofs.Bounds.{fits-abs, read-is, abs-add, abs-read}
+use Rattle.integers.proofs.Bounds.{fits, bounds, read-is}
 use Rattle.filters.specs.Bank.{high-join}
 use Rattle.filters.proofs.Ranges.{gain}
 use Rattle.lines.specs.Lines.{value, five}
@@ -124,7 +124,8 @@ add-out-2 c =
     let s = l .before in
     let x = value (l .loop .out) (s .args .at + l .loop .i) in
     let h : natAbs x ≤ 805306368 = omega (arith, ap natAbs (there (c .before)), s .pre .1 .small (l .loop .i) (omega arith)) in
-    fits-abs w32 (toZ w32 (ofZ w32 x) +ℤ toZ w32 (ofZ w32 (c .before .high-join .result))) (omega (arith, abs-add (toZ w32 (ofZ w32 x)) (toZ w32 (ofZ w32 (c .before .high-join .result))), abs-read w32 x, high-small (c .before), h))
+    let k = high-small (c .before) in
+    fits (search bounds depth 14) tt
 
 add-t29 : tie.Need-add-t29 Inv-loop μ-loop
 add-t29 c = omega arith

@@ -30,7 +30,9 @@ join-lines-requires : tie.Need-join-lines-requires
 join-lines-requires c κs =
     let s = c .before .before .before .before .before .before .before .before .before in
     let p = s .pre .0 in
-    ((five-runs (p .0) (now (s .args .low)) (fit-low s) (c .before .before .before .before .before .before .before .pad-line .ensures) (p .3), five-runs (p .0) (now (s .args .high)) (fit-high s) (c .before .before .before .before .pad-line2 .ensures) (p .5)), search needs)
+    let runs-low = five-runs (p .0) (now (s .args .low)) (fit-low s) (c .before .before .before .before .before .before .before .pad-line .ensures) (p .3) in
+    let runs-high = five-runs (p .0) (now (s .args .high)) (fit-high s) (c .before .before .before .before .pad-line2 .ensures) (p .5) in
+    search needs
 
 same-length : tie.Need-same-length
 same-length c = search needs

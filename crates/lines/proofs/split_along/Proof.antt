@@ -20,7 +20,8 @@ fit s = omega arith
 split-line-requires : tie.Need-split-line-requires
 split-line-requires c κs =
     let s = c .before .before .before .before .before .before in
-    (three-runs (s .pre .0 .0) (now (s .args .line)) (fit s) (c .before .before .before .before .pad-line .ensures) (s .pre .0 .3), search needs)
+    let runs = three-runs (s .pre .0 .0) (now (s .args .line)) (fit s) (c .before .before .before .before .pad-line .ensures) (s .pre .0 .3) in
+    search needs
 
 same-length : tie.Need-same-length
 same-length c = search needs

@@ -8,6 +8,7 @@ use lib.IntN.{ℤ}
 use lib.ListN.{length, length-set}
 use denote.Ref.{now}
 use mir.Syntax.{w32}
+use borrow.Author.Needs.{needs}
 use Rattle.integers.specs.Lists.{overwrite}
 use Rattle.integers.proofs.Lists.{overwrite-none, overwrite-step}
 use Rattle.integers.proofs.Bounds.{read-is}
@@ -66,7 +67,8 @@ low-split-requires : tie.Need-low-split-requires Inv-loop μ-loop
 low-split-requires c κs =
     let l = c .before .before .before .before in
     let r = l .before .pre .0 in
-    three-small low-split (r .0) (r .1) (r .2) (l .loop .i) (c .before .before .before .loop-test .taken) 134217728 (omega arith)
+    let small = three-small low-split (r .0) (r .1) (r .2) (l .loop .i) (c .before .before .before .loop-test .taken) 134217728 (omega arith) in
+    search needs
 
 add-high : tie.Need-add-high Inv-loop μ-loop
 add-high c = omega arith
@@ -81,7 +83,8 @@ high-split-requires : tie.Need-high-split-requires Inv-loop μ-loop
 high-split-requires c κs =
     let l = c .before .before .before .before .before in
     let r = l .before .pre .0 in
-    three-small high-split (r .0) (r .1) (r .2) (l .loop .i) (c .before .before .before .before .loop-test .taken) 134217728 (omega arith)
+    let small = three-small high-split (r .0) (r .1) (r .2) (l .loop .i) (c .before .before .before .before .loop-test .taken) 134217728 (omega arith) in
+    search needs
 
 add-t15 : tie.Need-add-t15 Inv-loop μ-loop
 add-t15 c = omega arith
