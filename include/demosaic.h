@@ -34,6 +34,36 @@ extern "C" {
  */
 uint32_t demosaic_packet_refusal(const uint8_t *store, size_t length);
 
+/*
+ * The filter bank. Planes and bands are width * height numbers each, row by row; every buffer is a pointer and
+ * how many numbers it has. Width and height are from 1 on here. Each call answers 0, or the number of the first
+ * question answered no; then no buffer was touched.
+ *
+ *    1  the width is 1 to 2,048?
+ *    2  the height is 1 to 2,048?
+ *    6  what is given (the plane; each of the four bands) has exactly width * height numbers?
+ *    7  what is filled (each of the four bands; the sums) has exactly width * height numbers?
+ *   15  the values are in range: -8,190..8,190 to split, -131,040..131,040 to join?
+ *
+ * demosaic_split fills band 1 (low along rows and columns), band 2 (high along rows, low along columns), band 3
+ * (the reverse) and band 4 (high along both), 16 times the paper's. demosaic_join fills the sums of the four
+ * bands, 1,024 times the paper's, each within -75,479,040..75,479,040. Joining what was split gives exactly
+ * 1,024 times the plane.
+ *
+ * demosaic_bring_back makes a sample of a sum: (sum + 512) divided by 1,024, the fraction dropped downward, then
+ * clipped to 0..4,095. It takes every int32_t.
+ *
+ * What the caller has to keep: each pointer is not null and points to as many numbers as are said, and no buffer
+ * that is filled overlaps another buffer of the same call.
+ */
+uint32_t demosaic_split(size_t width, size_t height, const int32_t *plane, size_t plane_length,
+                        int32_t *band1, size_t band1_length, int32_t *band2, size_t band2_length,
+                        int32_t *band3, size_t band3_length, int32_t *band4, size_t band4_length);
+uint32_t demosaic_join(size_t width, size_t height, const int32_t *band1, size_t band1_length,
+                       const int32_t *band2, size_t band2_length, const int32_t *band3, size_t band3_length,
+                       const int32_t *band4, size_t band4_length, int32_t *sums, size_t sums_length);
+uint16_t demosaic_bring_back(int32_t sum);
+
 #ifdef __cplusplus
 }
 #endif

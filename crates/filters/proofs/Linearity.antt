@@ -42,68 +42,77 @@ module _ (tr tc : Taps) (d w h : ℕ) where
       along-cong tc d h _ _ (λ i. along-times tr d w k (p (reflect h i)) c) r ∙ along-times tc d h k (λ i. along tr d w (p i) c) r
 
 -- ---- the bank
+-- four bands, each by the split filters along rows and along columns; and four joined, each by its join filters
+abbrev pub split-by : (Taps → Taps → ℤ) → Bands ℤ
+split-by f = record { band1 = f low-split low-split; band2 = f high-split low-split; band3 = f low-split high-split; band4 = f high-split high-split }
+
+abbrev pub join-by : (Taps → Taps → (Bands ℤ → ℤ) → ℤ) → ℤ
+join-by f = f low-join low-join (λ b. b .band1) +ℤ f high-join low-join (λ b. b .band2) +ℤ f low-join high-join (λ b. b .band3) +ℤ f high-join high-join (λ b. b .band4)
+
+-- sums and multiples of all that the four bands hold at a place
 abbrev pub add-bands : Bands ℤ → Bands ℤ → Bands ℤ
 add-bands a b = record { band1 = a .band1 +ℤ b .band1; band2 = a .band2 +ℤ b .band2; band3 = a .band3 +ℤ b .band3; band4 = a .band4 +ℤ b .band4 }
 
 abbrev pub times-bands : ℤ → Bands ℤ → Bands ℤ
 times-bands k b = record { band1 = k *ℤ b .band1; band2 = k *ℤ b .band2; band3 = k *ℤ b .band3; band4 = k *ℤ b .band4 }
 
+join-by-add : (f g : Taps → Taps → (Bands ℤ → ℤ) → ℤ) → join-by (λ tr tc x. f tr tc x +ℤ g tr tc x) ≡ join-by f +ℤ join-by g
+join-by-add f g =
+    linear (f low-join low-join (λ b. b .band1) ∷ f high-join low-join (λ b. b .band2) ∷ f low-join high-join (λ b. b .band3) ∷ f high-join high-join (λ b. b .band4)
+    ∷ g low-join low-join (λ b. b .band1) ∷ g high-join low-join (λ b. b .band2) ∷ g low-join high-join (λ b. b .band3) ∷ g high-join high-join (λ b. b .band4) ∷ [])
+    ((x₀ ⊕ atom 4) ⊕ (x₁ ⊕ atom 5) ⊕ (x₂ ⊕ atom 6) ⊕ (x₃ ⊕ atom 7)) ((x₀ ⊕ x₁ ⊕ x₂ ⊕ x₃) ⊕ (atom 4 ⊕ atom 5 ⊕ atom 6 ⊕ atom 7)) tt
+
+join-by-times : (k : ℤ) (f : Taps → Taps → (Bands ℤ → ℤ) → ℤ) → join-by (λ tr tc x. k *ℤ f tr tc x) ≡ k *ℤ join-by f
+join-by-times k f = sym (*ℤ-+ℤ k (A +ℤ B +ℤ C) D ∙ ap (λ z. z +ℤ k *ℤ D) (*ℤ-+ℤ k (A +ℤ B) C ∙ ap (λ z. z +ℤ k *ℤ C) (*ℤ-+ℤ k A B)))
+  where
+    A : ℤ
+    A = f low-join low-join (λ b. b .band1)
+
+    B : ℤ
+    B = f high-join low-join (λ b. b .band2)
+
+    C : ℤ
+    C = f low-join high-join (λ b. b .band3)
+
+    D : ℤ
+    D = f high-join high-join (λ b. b .band4)
+
 module _ (d w h : ℕ) where
   pub split-add : (p q : ℕ → ℕ → ℤ) (r c : ℕ) → split d w h (λ i j. p i j +ℤ q i j) r c ≡ add-bands (split d w h p r c) (split d w h q r c)
   unfolding split
-  split-add p q r c = λ m. record {
-    band1 = filtered-add low-split low-split d w h p q r c m;
-    band2 = filtered-add high-split low-split d w h p q r c m;
-    band3 = filtered-add low-split high-split d w h p q r c m;
-    band4 = filtered-add high-split high-split d w h p q r c m;
-  }
+  split-add p q r c = λ m. split-by (λ tr tc. filtered-add tr tc d w h p q r c m)
 
   pub split-times : (k : ℤ) (p : ℕ → ℕ → ℤ) (r c : ℕ) → split d w h (λ i j. k *ℤ p i j) r c ≡ times-bands k (split d w h p r c)
   unfolding split
-  split-times k p r c = λ m. record {
-    band1 = filtered-times low-split low-split d w h k p r c m;
-    band2 = filtered-times high-split low-split d w h k p r c m;
-    band3 = filtered-times low-split high-split d w h k p r c m;
-    band4 = filtered-times high-split high-split d w h k p r c m;
-  }
-
-  -- the four parts of a joined sum
-  part₁ : (ℕ → ℕ → Bands ℤ) → ℕ → ℕ → ℤ
-  part₁ b = filtered low-join low-join d w h (λ i j. b i j .band1)
-
-  part₂ : (ℕ → ℕ → Bands ℤ) → ℕ → ℕ → ℤ
-  part₂ b = filtered high-join low-join d w h (λ i j. b i j .band2)
-
-  part₃ : (ℕ → ℕ → Bands ℤ) → ℕ → ℕ → ℤ
-  part₃ b = filtered low-join high-join d w h (λ i j. b i j .band3)
-
-  part₄ : (ℕ → ℕ → Bands ℤ) → ℕ → ℕ → ℤ
-  part₄ b = filtered high-join high-join d w h (λ i j. b i j .band4)
+  split-times k p r c = λ m. split-by (λ tr tc. filtered-times tr tc d w h k p r c m)
 
   pub join-add : (a b : ℕ → ℕ → Bands ℤ) (r c : ℕ) → join d w h (λ i j. add-bands (a i j) (b i j)) r c ≡ join d w h a r c +ℤ join d w h b r c
-  unfolding join part₁ part₂ part₃ part₄
+  unfolding join
   join-add a b r c =
-      (λ m. filtered-add low-join low-join d w h (λ i j. a i j .band1) (λ i j. b i j .band1) r c m +ℤ filtered-add high-join low-join d w h (λ i j. a i j .band2) (λ i j. b i j .band2) r c m
-      +ℤ filtered-add low-join high-join d w h (λ i j. a i j .band3) (λ i j. b i j .band3) r c m +ℤ filtered-add high-join high-join d w h (λ i j. a i j .band4) (λ i j. b i j .band4) r c m)
-      ∙ linear (part₁ a r c ∷ part₁ b r c ∷ part₂ a r c ∷ part₂ b r c ∷ part₃ a r c ∷ part₃ b r c ∷ part₄ a r c ∷ part₄ b r c ∷ [])
-      ((x₀ ⊕ x₁) ⊕ (x₂ ⊕ x₃) ⊕ (atom 4 ⊕ atom 5) ⊕ (atom 6 ⊕ atom 7)) ((x₀ ⊕ x₂ ⊕ atom 4 ⊕ atom 6) ⊕ (x₁ ⊕ x₃ ⊕ atom 5 ⊕ atom 7)) tt
+      (λ m. join-by (λ tr tc x. filtered-add tr tc d w h (λ i j. x (a i j)) (λ i j. x (b i j)) r c m))
+      ∙ join-by-add (λ tr tc x. filtered tr tc d w h (λ i j. x (a i j)) r c) (λ tr tc x. filtered tr tc d w h (λ i j. x (b i j)) r c)
 
   pub join-times : (k : ℤ) (b : ℕ → ℕ → Bands ℤ) (r c : ℕ) → join d w h (λ i j. times-bands k (b i j)) r c ≡ k *ℤ join d w h b r c
-  unfolding join part₁ part₂ part₃ part₄
+  unfolding join
   join-times k b r c =
-      (λ m. filtered-times low-join low-join d w h k (λ i j. b i j .band1) r c m +ℤ filtered-times high-join low-join d w h k (λ i j. b i j .band2) r c m
-      +ℤ filtered-times low-join high-join d w h k (λ i j. b i j .band3) r c m +ℤ filtered-times high-join high-join d w h k (λ i j. b i j .band4) r c m)
-      ∙ sym (*ℤ-+ℤ k (part₁ b r c +ℤ part₂ b r c +ℤ part₃ b r c) (part₄ b r c) ∙ ap (λ z. z +ℤ k *ℤ part₄ b r c) (*ℤ-+ℤ k (part₁ b r c +ℤ part₂ b r c) (part₃ b r c) ∙ ap (λ z. z +ℤ k *ℤ part₃ b r c) (*ℤ-+ℤ k (part₁ b r c) (part₂ b r c))))
+      (λ m. join-by (λ tr tc x. filtered-times tr tc d w h k (λ i j. x (b i j)) r c m)) ∙ join-by-times k (λ tr tc x. filtered tr tc d w h (λ i j. x (b i j)) r c)
 
   -- as code goes: along the columns, bands 1 and 3 summed and bands 2 and 4 summed, and then along the rows
   pub join-by-rows : (b : ℕ → ℕ → Bands ℤ) (r c : ℕ)
       → along low-join d w (λ j. along-columns low-join d h (λ i j. b i j .band1) r j +ℤ along-columns high-join d h (λ i j. b i j .band3) r j) c
       +ℤ along high-join d w (λ j. along-columns low-join d h (λ i j. b i j .band2) r j +ℤ along-columns high-join d h (λ i j. b i j .band4) r j) c
       ≡ join d w h b r c
-  unfolding join part₁ part₂ part₃ part₄
+  unfolding join
   join-by-rows b r c =
-      (λ m. along-add low-join d w (along-columns low-join d h (λ i j. b i j .band1) r) (along-columns high-join d h (λ i j. b i j .band3) r) c m
-      +ℤ along-add high-join d w (along-columns low-join d h (λ i j. b i j .band2) r) (along-columns high-join d h (λ i j. b i j .band4) r) c m)
-      ∙ (λ m. (filtered-by-rows low-join low-join d w h (λ i j. b i j .band1) r c m +ℤ filtered-by-rows low-join high-join d w h (λ i j. b i j .band3) r c m)
-      +ℤ (filtered-by-rows high-join low-join d w h (λ i j. b i j .band2) r c m +ℤ filtered-by-rows high-join high-join d w h (λ i j. b i j .band4) r c m))
-      ∙ linear (part₁ b r c ∷ part₂ b r c ∷ part₃ b r c ∷ part₄ b r c ∷ []) ((x₀ ⊕ x₂) ⊕ (x₁ ⊕ x₃)) (x₀ ⊕ x₁ ⊕ x₂ ⊕ x₃) tt
+      (λ m. pair low-join (λ x. x .band1) (λ x. x .band3) m +ℤ pair high-join (λ x. x .band2) (λ x. x .band4) m)
+      ∙ linear (part low-join low-join (λ x. x .band1) ∷ part high-join low-join (λ x. x .band2) ∷ part low-join high-join (λ x. x .band3) ∷ part high-join high-join (λ x. x .band4) ∷ [])
+      ((x₀ ⊕ x₂) ⊕ (x₁ ⊕ x₃)) (x₀ ⊕ x₁ ⊕ x₂ ⊕ x₃) tt
+    where
+      part : Taps → Taps → (Bands ℤ → ℤ) → ℤ
+      part tr tc x = filtered tr tc d w h (λ i j. x (b i j)) r c
+
+      pair : (tr : Taps) (x y : Bands ℤ → ℤ)
+          → along tr d w (λ j. along-columns low-join d h (λ i j. x (b i j)) r j +ℤ along-columns high-join d h (λ i j. y (b i j)) r j) c ≡ part tr low-join x +ℤ part tr high-join y
+      pair tr x y =
+          along-add tr d w (along-columns low-join d h (λ i j. x (b i j)) r) (along-columns high-join d h (λ i j. y (b i j)) r) c
+          ∙ (λ m. filtered-by-rows tr low-join d w h (λ i j. x (b i j)) r c m +ℤ filtered-by-rows tr high-join d w h (λ i j. y (b i j)) r c m)

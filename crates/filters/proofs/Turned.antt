@@ -1,6 +1,5 @@
 -- Split and join commute with every turn; at an exchange bands 2 and 3 change places. Assumes nothing.
 use mathlib.Core.Path.{_≡_, refl, sym, _∙_, ap, subst}
-use mathlib.Core.Bool.{Bool}
 use mathlib.Core.List.{[], _∷_}
 use Prim.Native.Nat.{ℕ}
 use lib.IntN.{ℤ, pos, negℤ, _+ℤ_, +ℤ-assoc, +ℤ-idr, negℤ-+ℤ}
@@ -9,7 +8,8 @@ use Rattle.border.specs.Border.{reflect}
 use Rattle.turns.specs.Operations.{Around, nearby}
 use Rattle.turns.specs.Pictures.{Picture, turned, _≈_}
 use Rattle.turns.proofs.Commuting.{Commutes, same, commutes-by, nearby-commutes, apply, turned-with, turned-same, apply-turned-with}
-use Rattle.filters.specs.Bank.{Taps, tap, along, along-rows, along-columns, filtered, Bands, split, join, low-split, high-split, low-join, high-join}
+use Rattle.filters.specs.Bank.{Taps, tap, along, along-rows, along-columns, filtered, Bands, split, join, low-join, high-join}
+use Rattle.filters.proofs.Linearity.{split-by, join-by}
 use Rattle.filters.proofs.Taps.{tap-cong, tap-moved, tap-turned, tap-tap}
 
 -- what the bands hold at a place after an exchange
@@ -39,55 +39,31 @@ unfolding around
 around-mirror tr tc d n = tap-cong tc d _ _ (λ i. tap-turned tr d (n i) negℤ negℤ-+ℤ (pos 0)) (pos 0)
 
 -- ---- split
-split-around : ℕ → Bool → Bool → Around ℤ → Bands ℤ
-split-around d a b n = record { band1 = around low-split low-split d n; band2 = around high-split low-split d n; band3 = around low-split high-split d n; band4 = around high-split high-split d n }
-
 pub split-commutes : (d : ℕ) → Commutes same exchange-bands (λ w h l p. split d w h p)
-unfolding split split-around nearby exchange-bands
+unfolding split nearby exchange-bands
 split-commutes d =
     commutes-by
-    (λ w h l p r c. λ m. record {
-      band1 = around-filtered low-split low-split d w h p r c m;
-      band2 = around-filtered high-split low-split d w h p r c m;
-      band3 = around-filtered low-split high-split d w h p r c m;
-      band4 = around-filtered high-split high-split d w h p r c m;
-    })
-    (nearby-commutes same exchange-bands (split-around d)
-    (λ a b n. λ m. record {
-      band1 = around-exchange low-split low-split d n m;
-      band2 = around-exchange high-split low-split d n m;
-      band3 = around-exchange low-split high-split d n m;
-      band4 = around-exchange high-split high-split d n m;
-    })
-    (λ a b n. λ m. record {
-      band1 = around-mirror low-split low-split d n m;
-      band2 = around-mirror high-split low-split d n m;
-      band3 = around-mirror low-split high-split d n m;
-      band4 = around-mirror high-split high-split d n m;
-    }))
+    (λ w h l p r c. λ m. split-by (λ tr tc. around-filtered tr tc d w h p r c m))
+    (nearby-commutes same exchange-bands (λ a b n. split-by (λ tr tc. around tr tc d n))
+    (λ a b n. λ m. split-by (λ tr tc. around-exchange tr tc d n m))
+    (λ a b n. λ m. split-by (λ tr tc. around-mirror tr tc d n m)))
 
 -- ---- join
-join-around : ℕ → Bool → Bool → Around (Bands ℤ) → ℤ
-join-around d a b n =
-    around low-join low-join d (λ i j. n i j .band1) +ℤ around high-join low-join d (λ i j. n i j .band2)
-    +ℤ around low-join high-join d (λ i j. n i j .band3) +ℤ around high-join high-join d (λ i j. n i j .band4)
+-- the filters' directions exchanged, and bands 2 and 3
+join-exchange : (f : Taps → Taps → (Bands ℤ → ℤ) → ℤ) → join-by (λ tr tc x. f tc tr (λ b. x (exchange-bands b))) ≡ join-by f
+unfolding exchange-bands
+join-exchange f =
+    linear (f low-join low-join (λ b. b .band1) ∷ f high-join low-join (λ b. b .band2) ∷ f low-join high-join (λ b. b .band3) ∷ f high-join high-join (λ b. b .band4) ∷ [])
+    (x₀ ⊕ x₂ ⊕ x₁ ⊕ x₃) (x₀ ⊕ x₁ ⊕ x₂ ⊕ x₃) tt
 
 pub join-commutes : (d : ℕ) → Commutes exchange-bands same (λ w h l b. join d w h b)
-unfolding join join-around nearby exchange-bands
+unfolding join nearby
 join-commutes d =
     commutes-by
-    (λ w h l b r c. λ m.
-    around-filtered low-join low-join d w h (λ i j. b i j .band1) r c m +ℤ around-filtered high-join low-join d w h (λ i j. b i j .band2) r c m
-    +ℤ around-filtered low-join high-join d w h (λ i j. b i j .band3) r c m +ℤ around-filtered high-join high-join d w h (λ i j. b i j .band4) r c m)
-    (nearby-commutes exchange-bands same (join-around d)
-    (λ x y n.
-    (λ m. around-exchange low-join low-join d (λ i j. n i j .band1) m +ℤ around-exchange high-join low-join d (λ i j. n i j .band3) m
-    +ℤ around-exchange low-join high-join d (λ i j. n i j .band2) m +ℤ around-exchange high-join high-join d (λ i j. n i j .band4) m)
-    ∙ linear (around low-join low-join d (λ i j. n i j .band1) ∷ around low-join high-join d (λ i j. n i j .band3) ∷ around high-join low-join d (λ i j. n i j .band2) ∷ around high-join high-join d (λ i j. n i j .band4) ∷ [])
-    (x₀ ⊕ x₁ ⊕ x₂ ⊕ x₃) (x₀ ⊕ x₂ ⊕ x₁ ⊕ x₃) tt)
-    (λ x y n. λ m.
-    around-mirror low-join low-join d (λ i j. n i j .band1) m +ℤ around-mirror high-join low-join d (λ i j. n i j .band2) m
-    +ℤ around-mirror low-join high-join d (λ i j. n i j .band3) m +ℤ around-mirror high-join high-join d (λ i j. n i j .band4) m))
+    (λ w h l b r c. λ m. join-by (λ tr tc x. around-filtered tr tc d w h (λ i j. x (b i j)) r c m))
+    (nearby-commutes exchange-bands same (λ a b n. join-by (λ tr tc x. around tr tc d (λ i j. x (n i j))))
+    (λ a b n. (λ m. join-by (λ tr tc x. around-exchange tr tc d (λ i j. x (exchange-bands (n i j))) m)) ∙ join-exchange (λ tr tc x. around tr tc d (λ i j. x (n i j))))
+    (λ a b n. λ m. join-by (λ tr tc x. around-mirror tr tc d (λ i j. x (n i j)) m)))
 
 -- ---- every turn: the bands of a turned plane are its bands turned, and the joined sums of turned bands the sums turned
 exchange-twice : (b : Bands ℤ) → exchange-bands (exchange-bands b) ≡ b

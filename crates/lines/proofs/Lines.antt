@@ -32,16 +32,6 @@ read-small {l = l} {o = o} b h run k i = omega (arith, abs-read w32 (value l (o 
 read-value : {m : ℕ} {l : List ℤ} {o n : ℕ} → m < 2147483648 → Run m l o n → (k : ℕ) → k < n → read l (o + k) ≡ value l (o + k)
 read-value {l = l} {o = o} h run k i = back (fits-abs w32 (value l (o + k)) (omega (arith, run .small k i)))
 
--- a run of more places, from s places later on
-pub run-part : {m : ℕ} {l : List ℤ} {o n : ℕ} → Run m l o n → (s k at : ℕ) → at ≡ o + s → s + k ≤ n → Run m l at k
-run-part {m} {l} {o} {n} run s k at e h = record { inside = omega (arith, run .inside); small = go }
-  where
-    place : (i : ℕ) → o + (s + i) ≡ at + i
-    place i = omega arith
-
-    go : (i : ℕ) → i < k → natAbs (value l (at + i)) ≤ m
-    go i j = let b : natAbs (value l (o + (s + i))) ≤ m = run .small (s + i) (omega arith) in omega (arith, ap (λ (p : ℕ). natAbs (value l p)) (place i))
-
 -- what stands before what was laid down, or after it, is as it was
 pub outside : (l : List ℤ) (o n : ℕ) (f : ℕ → ℤ) (p : ℕ) → o + n ≤ length l → (o ≤ p → o + n ≤ p) → value (overwrite l o n f) p ≡ value l p
 outside l o n f p h apart = overwrite-at l o n f p (pos 0) (value l p) h (λ b. refl) (λ i b e. absurd (let q : o + n ≤ p = apart (omega arith) in omega arith)) (λ b. refl)

@@ -7,7 +7,7 @@ use lib.IntN.{ℤ}
 use lib.ListN.{length}
 use denote.Ref.{now}
 use Rattle.turns.proofs.Frames.{overwrite-no-row}
-use Rattle.filters.specs.Bank.{split}
+use Rattle.filters.specs.Bank.{Bands, split}
 use Rattle.bank.specs.Planes.{plane}
 use Rattle.bank.proofs.Rows.{rows-laid, row-laid, all-laid}
 use Rattle.bank.proofs.split_rows.Statement.{statement}
@@ -21,17 +21,8 @@ abbrev μ-loop : tie.MeasureT-loop
 μ-loop given width height low₀ high₀ band1₀ band2₀ band3₀ band4₀ r₀ low high band1 band2 band3 band4 r = height - r
 
 -- a band, row by row
-abbrev P1 : tie.Start Inv-loop μ-loop → ℕ → ℕ → ℤ
-P1 s = λ i j. split 1 (s .args .width) (s .args .height) (plane (s .args .width) (now (s .args .given))) i j .band1
-
-abbrev P2 : tie.Start Inv-loop μ-loop → ℕ → ℕ → ℤ
-P2 s = λ i j. split 1 (s .args .width) (s .args .height) (plane (s .args .width) (now (s .args .given))) i j .band2
-
-abbrev P3 : tie.Start Inv-loop μ-loop → ℕ → ℕ → ℤ
-P3 s = λ i j. split 1 (s .args .width) (s .args .height) (plane (s .args .width) (now (s .args .given))) i j .band3
-
-abbrev P4 : tie.Start Inv-loop μ-loop → ℕ → ℕ → ℤ
-P4 s = λ i j. split 1 (s .args .width) (s .args .height) (plane (s .args .width) (now (s .args .given))) i j .band4
+abbrev Band : tie.Start Inv-loop μ-loop → (Bands ℤ → ℤ) → ℕ → ℕ → ℤ
+Band s x = λ i j. x (split 1 (s .args .width) (s .args .height) (plane (s .args .width) (now (s .args .given))) i j)
 
 loop-holds : tie.Need-loop-holds Inv-loop μ-loop
 loop-holds c =
@@ -61,10 +52,10 @@ loop-again c =
     let k = c .before .before .before .before .before .before .split-row .kept .1 .1 .1 .1 in
     let h = c .before .before .before .before .before .before .before .before .before .before .before .before .before .loop-test .taken in (
       omega arith,
-      row-laid (a .width) h (now (a .band1)) (len .0) (P1 s) (v .1) (c .before .before .before .before .before .before .split-row .ensures .0),
-      row-laid (a .width) h (now (a .band2)) (len .1) (P2 s) (v .2) (c .before .before .before .before .before .before .split-row .ensures .1 .0),
-      row-laid (a .width) h (now (a .band3)) (len .2) (P3 s) (v .3) (c .before .before .before .before .before .before .split-row .ensures .1 .1 .0),
-      row-laid (a .width) h (now (a .band4)) (len .3) (P4 s) (v .4) (c .before .before .before .before .before .before .split-row .ensures .1 .1 .1),
+      row-laid (a .width) h (now (a .band1)) (len .0) (Band s (λ b. b .band1)) (v .1) (c .before .before .before .before .before .before .split-row .ensures .0),
+      row-laid (a .width) h (now (a .band2)) (len .1) (Band s (λ b. b .band2)) (v .2) (c .before .before .before .before .before .before .split-row .ensures .1 .0),
+      row-laid (a .width) h (now (a .band3)) (len .2) (Band s (λ b. b .band3)) (v .3) (c .before .before .before .before .before .before .split-row .ensures .1 .1 .0),
+      row-laid (a .width) h (now (a .band4)) (len .3) (Band s (λ b. b .band4)) (v .4) (c .before .before .before .before .before .before .split-row .ensures .1 .1 .1),
       k .0 ∙ v .5,
       k .1 .0 ∙ v .6,
       k .1 .1 .0 ∙ v .7,
@@ -99,7 +90,7 @@ returns c =
     let v = l .loop .inv in
     let len = s .pre .1 .1 in
     let all : l .loop .r ≡ a .height = omega arith in
-    (all-laid (a .width) all (now (a .band1)) (len .0) (P1 s) (v .1), (all-laid (a .width) all (now (a .band2)) (len .1) (P2 s) (v .2), (all-laid (a .width) all (now (a .band3)) (len .2) (P3 s) (v .3), all-laid (a .width) all (now (a .band4)) (len .3) (P4 s) (v .4))))
+    (all-laid (a .width) all (now (a .band1)) (len .0) (Band s (λ b. b .band1)) (v .1), (all-laid (a .width) all (now (a .band2)) (len .1) (Band s (λ b. b .band2)) (v .2), (all-laid (a .width) all (now (a .band3)) (len .2) (Band s (λ b. b .band3)) (v .3), all-laid (a .width) all (now (a .band4)) (len .3) (Band s (λ b. b .band4)) (v .4))))
 
 pub split-rows-spec : {M : Type 1} → statement M
 split-rows-spec =

@@ -1,21 +1,20 @@
 -- `bank::values_within` meets its contract: the values passed are within `most` if the farthest of them is.
 -- Assumes nothing.
 use mathlib.Core.Path.{_≡_, sym, _∙_, ap}
-use mathlib.Core.List.{map}
 use Prim.Native.Nat.{_-_, _≤_}
 use native.Mathlib.Omega.{arith}
 use lib.Dec.{leb}
-use lib.IntN.{pos, natAbs}
+use lib.IntN.{natAbs}
 use lib.ListN.{length}
 use denote.Ref.{now}
 use mir.Syntax.{w32}
 use mir.Val.{toZ, ofZ}
 use borrow.Author.Needs.{needs}
 use Rattle.integers.specs.Lists.{tabulate}
-use Rattle.integers.proofs.Lists.{tabulate-getD, map-tabulate}
 use Rattle.questions.specs.Questions.{all-at-most}
 use Rattle.questions.proofs.Asking.{scan-none, scan-more}
 use Rattle.lines.specs.Lines.{value}
+use Rattle.bank.proofs.Calls.{magnitudes}
 use Rattle.bank.proofs.values_within.Statement.{statement}
 use Rattle.bank.proofs.values_within.Tie as tie
 
@@ -61,7 +60,7 @@ returns c =
     let a = l .before .args in
     let v = now (a .values) in
     let all : length v ≡ l .loop .i = omega arith in
-    l .loop .inv .1 ∙ ap (all-at-most (a .most)) (sym (map-tabulate natAbs (l .loop .i) (value v)) ∙ ap (map natAbs) (tabulate-getD v (l .loop .i) (pos 0) all))
+    l .loop .inv .1 ∙ ap (all-at-most (a .most)) (sym (magnitudes v (l .loop .i) all))
 
 pub values-within-spec : {M : Type 1} → statement M
 values-within-spec =
