@@ -1,17 +1,20 @@
 -- The laws of the bank's calls: what an accepted call knows, what each leaves, and what the two leave one after the other.
 -- Assumes nothing.
 use mathlib.Core.Path.{_≡_, refl, sym, _∙_, ap, subst}
-use mathlib.Core.Bool.{true}
+use mathlib.Core.Bool.{true, false}
 use mathlib.Core.List.{List, map}
-use Prim.Native.Nat.{ℕ, _+_, _*_, _/_, _%_, _≤_, _<_}
+use Prim.Native.Nat.{ℕ, zero, suc, _+_, _*_, _/_, _%_, _≤_, _<_}
 use native.Mathlib.Nat.{div-add-mod'}
 use native.Mathlib.Omega.{arith}
-use lib.Dec.{eqb}
-use lib.IntN.{ℤ, pos, natAbs, _*ℤ_}
+use lib.Dec.{T, eqb, leb, ltb→lt}
+use lib.IntN.{ℤ, pos, negsuc, negℤ, natAbs, _-ℤ_, _*ℤ_, +ℤ-idl}
+use lib.Signed.{ltZ, nonNeg}
 use lib.ListN.{length}
-use borrow.Author.Tests.{eq-eqb, eqb-true}
+use borrow.Author.Tests.{le-leb, lt-leb, eq-eqb, eqb-true}
 use Rattle.integers.specs.Lists.{tabulate}
-use Rattle.integers.proofs.Tests.{is-true, true-is}
+use Rattle.integers.proofs.Tests.{is-true, true-is, never}
+use Rattle.integers.proofs.Order.{le-of-not-lt, abs-between}
+use Rattle.integers.proofs.Bounds.{abs-neg}
 use Rattle.integers.proofs.Lists.{length-tabulate, getD-tabulate, tabulate-cong, tabulate-getD, map-tabulate}
 use Rattle.questions.specs.Questions.{ask, all-at-most, size-questions}
 use Rattle.questions.proofs.Asking.{AllYes, all-yes, all-yes-split, ask-zero, between-yes, between-is, area-bound, all-at-most-at, all-at-most-by}
@@ -27,6 +30,26 @@ use Rattle.bank.specs.Planes.{Sizes, Plane, plane, bands-of}
 use Rattle.bank.specs.Calls.{bands, lengths, to-split, to-join, split-rest, split-questions, join-rest, join-questions, number-of-answer, split-lists, join-list, SplitResult, JoinResult}
 use Rattle.bank.specs.declared.BankAnswer.{BankAnswer}
 use Rattle.bank.specs.declared.BankAnswer.the-variants.{Accepted, Refused}
+
+-- ---- 15, of one value, by the two tests
+pub beyond-below : (most v : ℤ) → T (nonNeg most) → ltZ v (pos 0 -ℤ most) ≡ true → leb (natAbs v) (natAbs most) ≡ false
+beyond-below (negsuc m) v s t = absurd s
+beyond-below (pos m) v s t = lt-leb (natAbs v) m (go m v (ap (ltZ v) (sym (+ℤ-idl (negℤ (pos m)))) ∙ t))
+  where
+    go : (m : ℕ) (v : ℤ) → ltZ v (negℤ (pos m)) ≡ true → m < natAbs v
+    go zero (pos a) t = absurd (let h : a < 0 = ltb→lt a 0 (true-is t) in omega arith)
+    go (suc m) (pos a) t = never (sym t)
+    go zero (negsuc a) t = omega arith
+    go (suc m) (negsuc a) t = let h : m < a = ltb→lt m a (true-is t) in omega arith
+
+pub beyond-above : (most v : ℤ) → T (nonNeg most) → ltZ most v ≡ true → leb (natAbs v) (natAbs most) ≡ false
+beyond-above (negsuc m) v s t = absurd s
+beyond-above (pos m) (pos a) s t = lt-leb a m (ltb→lt m a (true-is t))
+beyond-above (pos m) (negsuc a) s t = never (sym t)
+
+pub not-beyond : (most v : ℤ) → T (nonNeg most) → ltZ v (pos 0 -ℤ most) ≡ false → ltZ most v ≡ false → leb (natAbs v) (natAbs most) ≡ true
+not-beyond (negsuc m) v s t u = absurd s
+not-beyond (pos m) v s t u = le-leb (natAbs v) m (abs-between (le-of-not-lt v (negℤ (pos m)) (ap (ltZ v) (sym (+ℤ-idl (negℤ (pos m)))) ∙ t)) (le-of-not-lt (pos m) v u) (omega (arith, abs-neg (pos m))) (omega arith))
 
 -- ---- what an accepted call knows
 pub sizes-is : (w h : ℕ) → AllYes (size-questions 1 w h) → Sizes w h

@@ -1,14 +1,16 @@
 // Document 01's filter bank: split and join.
 ghost use mathlib.Core.Path.{_≡_};
 ghost use mathlib.Core.List.{map};
-ghost use Prim.Native.Nat.{_+_, _*_, _≤_, _<_, max};
+ghost use mathlib.Core.Bool.{cond};
+ghost use Prim.Native.Nat.{_+_, _*_, _≤_, _<_};
+ghost use lib.Dec.{leb};
 ghost use lib.IntN.{natAbs};
 ghost use lib.ListN.{length};
 ghost use Rattle.integers.specs.Lists.{overwrite};
 ghost use Rattle.questions.specs.Questions.{ask, all-at-most};
 ghost use Rattle.turns.specs.Frames.{listing};
 ghost use Rattle.filters.specs.Bank.{split as split-plane, join as join-bands};
-ghost use Rattle.bank.specs.Planes.{Sizes, Plane, plane, bands-of};
+ghost use Rattle.bank.specs.Planes.{Reach, Sizes, Plane, plane, bands-of};
 ghost use Rattle.bank.specs.Calls.{bands, values-questions, split-questions, join-questions, number-of-answer, SplitResult, JoinResult};
 
 // What split and join answer.
@@ -29,34 +31,33 @@ impl BankAnswer {
     }
 }
 
-fn larger(a: u32, b: u32) -> u32
-    ensures { λ r. ⌜ r ≡ max a b ⌝ }
+// 1 where a value is farther from 0 than `most`, else what was found before.
+fn marked(most: i32, value: i32, found: u32) -> u32
+    requires { ⌜ Reach most ⌝ }
+    ensures { λ r. ⌜ r ≡ cond (leb (natAbs value) (natAbs most)) found 1 ⌝ }
 {
-    if a < b { b } else { a }
-}
-
-// How far a value is from 0. The lowest of all is farther than any i32 says, so 1 is added at the end.
-fn magnitude(value: i32) -> u32
-    ensures { λ r. ⌜ r ≡ natAbs value ⌝ }
-{
-    if value < 0 {
-        (-1 - value) as u32 + 1
-    } else {
-        value as u32
+    if value < 0 - most {
+        return 1;
     }
+    if most < value {
+        return 1;
+    }
+    found
 }
 
-// Question 15: whether no value is farther from 0 than `most`. A running maximum, as in question 9.
-fn values_within(most: u32, values: &[i32]) -> bool
-    ensures { λ r. ⌜ r ≡ all-at-most most (map natAbs (now (values .entry))) ⌝ }
+// Question 15: whether no value is farther from 0 than `most`. All are looked at, even after one that is: only so is this a loop
+// over vectors.
+fn values_within(most: i32, values: &[i32]) -> bool
+    requires { ⌜ Reach most ⌝ }
+    ensures { λ r. ⌜ r ≡ all-at-most (natAbs most) (map natAbs (now (values .entry))) ⌝ }
 {
-    let mut farthest = 0;
+    let mut found = 0;
     let mut i = 0;
     while i < values.len() {
-        farthest = larger(farthest, magnitude(values[i]));
+        found = marked(most, values[i], found);
         i += 1;
     }
-    farthest <= most
+    found == 0
 }
 
 // Row r of the four bands: along the columns into the padded lines `low` and `high`, then along the row.
@@ -267,8 +268,9 @@ fn join_rows(
 }
 
 // Question 15 of the four bands: 15 where a value is farther from 0 than `most`, else 0.
-fn bands_refusal(most: u32, band1: &[i32], band2: &[i32], band3: &[i32], band4: &[i32]) -> u32
-    ensures { λ r. ⌜ r ≡ ask (values-questions most (bands (now (band1 .entry)) (now (band2 .entry)) (now (band3 .entry)) (now (band4 .entry)))) ⌝ }
+fn bands_refusal(most: i32, band1: &[i32], band2: &[i32], band3: &[i32], band4: &[i32]) -> u32
+    requires { ⌜ Reach most ⌝ }
+    ensures { λ r. ⌜ r ≡ ask (values-questions (natAbs most) (bands (now (band1 .entry)) (now (band2 .entry)) (now (band3 .entry)) (now (band4 .entry)))) ⌝ }
 {
     if !values_within(most, band1) {
         return 15;

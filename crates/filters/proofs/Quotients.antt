@@ -1,8 +1,8 @@
 -- The rounded quotient as code computes it, on every 32-bit number, and what document 01 says of it. Assumes nothing.
-use mathlib.Core.Path.{_≡_, refl, sym, _∙_, ap, subst}
+use mathlib.Core.Path.{_≡_, refl, sym, _∙_, ap}
 use mathlib.Core.Bool.{true, false}
 use mathlib.Core.List.{[], _∷_}
-use Prim.Native.Nat.{ℕ, zero, suc, _+_, _/_, _≤_, _<_}
+use Prim.Native.Nat.{ℕ, zero, suc, _/_, _≤_, _<_}
 use native.Mathlib.Omega.{arith}
 use lib.Dec.{T, ltb, ltb→lt, lit<}
 use lib.IntN.{ℤ, pos, negsuc, negℤ, natAbs, _+ℤ_, _-ℤ_}
@@ -64,15 +64,6 @@ pub divided-small : (n : ℤ) → natAbs n < 2147483648 → natAbs (whole-divide
 unfolding whole-divided
 divided-small (pos m) h = omega arith
 divided-small (negsuc m) h = omega arith
-
--- −1 − n of a number below 0 is a natural number, one less than how far n is from 0
-pub turned-over-is : (n : ℤ) → ltZ n (pos 0) ≡ true → T (nonNeg (negsuc 0 -ℤ n)) × (natAbs (negsuc 0 -ℤ n) + 1 ≡ natAbs n)
-turned-over-is (pos m) t = not-below m t
-turned-over-is (negsuc m) t = (subst (λ (z : ℤ). T (nonNeg z)) (sym (turned-over m)) tt, omega (arith, ap natAbs (turned-over m)))
-
-pub not-below-is : (n : ℤ) → ltZ n (pos 0) ≡ false → T (nonNeg n)
-not-below-is (pos m) t = tt
-not-below-is (negsuc m) t = never t
 
 -- ---- the rounded quotient
 pub rounded-from : (s : ℤ) → whole-divided (s -ℤ pos 512) 1024 +ℤ pos 1 ≡ rounded 1024 s

@@ -137,14 +137,18 @@ leb-max a b m =
     (λ t. let l : max a b ≤ m = leb→le (max a b) m t in both (leb a m) (leb b m) (le→leb a m (omega arith)) (le→leb b m (omega arith)))
     (λ t. let p : a ≤ m = leb→le a m (and-left (leb a m) (leb b m) t) in let q : b ≤ m = leb→le b m (and-right (leb a m) (leb b m) t) in le→leb (max a b) m (omega arith))
 
+and-true : (b : Bool) → (b && true) ≡ b
+and-true true = refl
+and-true false = refl
+
+and-false : (b : Bool) → (b && false) ≡ false
+and-false true = refl
+and-false false = refl
+
 -- with one more at the end
 all-at-most-snoc : (m : ℕ) (l : List ℕ) (x : ℕ) → all-at-most m (l ++ (x ∷ [])) ≡ (all-at-most m l && leb x m)
 unfolding all-at-most
 all-at-most-snoc m [] x = and-true (leb x m)
-  where
-    and-true : (b : Bool) → (b && true) ≡ b
-    and-true true = refl
-    and-true false = refl
 all-at-most-snoc m (y ∷ ys) x = ap (λ (b : Bool). leb y m && b) (all-at-most-snoc m ys x) ∙ sym (and-assoc (leb y m) (all-at-most m ys) (leb x m))
 
 pub scan-none : (m : ℕ) (f : ℕ → ℕ) → leb 0 m ≡ all-at-most m (tabulate 0 f)
@@ -156,6 +160,20 @@ unfolding tabulate
 scan-more m most k f {x} {y} e p q =
     ap (λ (n : ℕ). leb n m) q ∙ leb-max most x m ∙ (λ j. e j && leb (p j) m)
     ∙ sym (all-at-most-snoc m (tabulate k f) (f k)) ∙ ap (λ (n : ℕ). all-at-most m (tabulate n f)) (sym (add-one k))
+
+-- ---- the scan that marks: `found` is 0 as long as no number above m has come
+pub mark-none : (m : ℕ) (f : ℕ → ℕ) → true ≡ all-at-most m (tabulate 0 f)
+unfolding all-at-most tabulate
+mark-none m f = refl
+
+pub mark-more : (m found k : ℕ) (f : ℕ → ℕ) {y : ℕ} → eqb found 0 ≡ all-at-most m (tabulate k f) → y ≡ cond (leb (f k) m) found 1 → eqb y 0 ≡ all-at-most m (tabulate (k + 1) f)
+unfolding tabulate
+mark-more m found k f e q =
+    ap (λ (n : ℕ). eqb n 0) q ∙ either (leb (f k) m) ∙ sym (all-at-most-snoc m (tabulate k f) (f k)) ∙ ap (λ (n : ℕ). all-at-most m (tabulate n f)) (sym (add-one k))
+  where
+    either : (b : Bool) → eqb (cond b found 1) 0 ≡ (all-at-most m (tabulate k f) && b)
+    either true = e ∙ sym (and-true (all-at-most m (tabulate k f)))
+    either false = sym (and-false (all-at-most m (tabulate k f)))
 
 -- ---- question 9's test, place by place
 pub all-at-most-at : (m : ℕ) (l : List ℕ) → T (all-at-most m l) → (k : ℕ) → k < length l → getD l k 0 ≤ m
