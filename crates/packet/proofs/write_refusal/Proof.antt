@@ -1,12 +1,12 @@
 -- `packet::write_refusal` meets its contract: the fields' questions, then 6, 9 and 14.
 -- Assumes nothing.
-use mathlib.Core.Path.{_≡_, sym, _∙_}
-use mathlib.Core.Bool.{Bool, true, false, not}
+use mathlib.Core.Path.{_≡_}
+use mathlib.Core.Bool.{true, false}
 use Prim.Native.Nat.{ℕ}
 use native.Mathlib.Omega.{arith}
 use denote.Ref.{now}
-use Rattle.integers.proofs.Tests.{not-is}
-use Rattle.questions.specs.Questions.{ask, all-at-most, ceiling}
+use Rattle.integers.proofs.Tests.{tested}
+use Rattle.questions.specs.Questions.{ask}
 use Rattle.questions.proofs.Asking.{asking, ask-first, ask-later, all-yes}
 use Rattle.packet.specs.Calls.{fields-questions, writing-questions, write-questions}
 use Rattle.packet.proofs.Stores.{Allowed, allowed}
@@ -46,23 +46,19 @@ add-length c = search needs
 samples-within-requires : tie.Need-samples-within-requires
 samples-within-requires c κs = search needs
 
--- the scan's answer, where it was tested
-scanned : (c : tie.After-samples-within) (v : Bool) → not (c .samples-within .result) ≡ v → all-at-most ceiling (now (c .before .before .before .before .before .before .args .samples)) ≡ not v
-scanned c v e = sym (c .samples-within .ensures) ∙ not-is (c .samples-within .result) v e
-
 returns-3 : tie.Need-returns-3
 returns-3 c =
-    let above = scanned (c .before) true (c .if3 .taken) in
+    let above = tested true (c .before .samples-within .ensures) (c .if3 .taken) in
     rest (c .before .before .before .before) _ (search asking)
 
 returns-4 : tie.Need-returns-4
 returns-4 c =
-    let within = scanned (c .before .before) false (c .before .if3 .left) in
+    let within = tested false (c .before .before .samples-within .ensures) (c .before .if3 .left) in
     rest (c .before .before .before .before .before) _ (search asking)
 
 returns-5 : tie.Need-returns-5
 returns-5 c =
-    let within = scanned (c .before .before) false (c .before .if3 .left) in
+    let within = tested false (c .before .before .samples-within .ensures) (c .before .if3 .left) in
     rest (c .before .before .before .before .before) _ (search asking)
 
 pub write-refusal-spec : {M : Type 1} → statement M
