@@ -27,7 +27,7 @@ use Rattle.filters.proofs.Ranges.{split-range}
 use Rattle.filters.proofs.Turned.{join-commutes}
 use Rattle.lines.specs.Lines.{value}
 use Rattle.bank.specs.Planes.{Sizes, Plane, plane, bands-of}
-use Rattle.bank.specs.Calls.{bands, lengths, to-split, to-join, split-rest, split-questions, join-rest, join-questions, number-of-answer, split-lists, join-list, SplitResult, JoinResult}
+use Rattle.bank.specs.Calls.{bands, lengths, to-split, to-join, splitting-questions, split-questions, joining-questions, join-questions, number-of-answer, split-lists, join-list, SplitResult, JoinResult}
 use Rattle.bank.specs.declared.BankAnswer.{BankAnswer}
 use Rattle.bank.specs.declared.BankAnswer.the-variants.{Accepted, Refused}
 
@@ -83,7 +83,7 @@ pub record Splittable (w h : ℕ) (given : List ℤ) (rooms : Bands ℕ) : Type 
 
 pub splittable : (w h : ℕ) (given : List ℤ) (rooms : Bands ℕ) (n : ℕ) → n ≡ ask (split-questions w h given rooms) → n ≡ 0 → Splittable w h given rooms
 splittable w h given rooms n e z =
-    let y = all-yes-split (size-questions 1 w h) (split-rest (w * h) given rooms) (all-yes (split-questions w h given rooms) tt n e z) in
+    let y = all-yes-split (size-questions 1 w h) (splitting-questions (w * h) given rooms) (all-yes (split-questions w h given rooms) tt n e z) in
     let q = y .1 in
     record {
       sizes = sizes-is w h (y .0);
@@ -104,7 +104,7 @@ pub record Joinable (w h : ℕ) (given : Bands (List ℤ)) (room : ℕ) : Type 0
 
 pub joinable : (w h : ℕ) (given : Bands (List ℤ)) (room n : ℕ) → n ≡ ask (join-questions w h given room) → n ≡ 0 → Joinable w h given room
 joinable w h given room n e z =
-    let y = all-yes-split (size-questions 1 w h) (join-rest (w * h) given room) (all-yes (join-questions w h given room) tt n e z) in
+    let y = all-yes-split (size-questions 1 w h) (joining-questions (w * h) given room) (all-yes (join-questions w h given room) tt n e z) in
     let q = y .1 in
     let v = q .1 .1 .1 .1 .1 in
     record {

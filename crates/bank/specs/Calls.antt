@@ -13,6 +13,7 @@ use Rattle.bank.specs.Planes.{plane, bands-of}
 use Rattle.bank.specs.declared.BankAnswer.{BankAnswer}
 use Rattle.bank.specs.declared.BankAnswer.the-variants as bank-answer
 
+-- four of a kind, that of band 1 first
 abbrev pub bands : {A : Type 0} → A → A → A → A → Bands A
 bands a b c d = record { band1 = a; band2 = b; band3 = c; band4 = d }
 
@@ -40,20 +41,22 @@ abbrev pub band-questions : ℕ → ℕ → Bands ℕ → List Question
 band-questions number count rooms =
     question number (eqb (rooms .band1) count) ∷ question number (eqb (rooms .band2) count) ∷ question number (eqb (rooms .band3) count) ∷ question number (eqb (rooms .band4) count) ∷ []
 
--- split, of a plane into bands of so many numbers: 1 and 2 (from 1), 6, 7, 15
-abbrev pub split-rest : ℕ → List ℤ → Bands ℕ → List Question
-split-rest count given rooms = question 6 (eqb (length given) count) ∷ (band-questions 7 count rooms ++ (values-question to-split given ∷ []))
+-- 6, 7 and 15 of split, where a plane has `count` numbers and the bands have room for so many
+abbrev pub splitting-questions : ℕ → List ℤ → Bands ℕ → List Question
+splitting-questions count given rooms = question 6 (eqb (length given) count) ∷ (band-questions 7 count rooms ++ (values-question to-split given ∷ []))
 
+-- split: 1 and 2 (from 1), and then those
 abbrev pub split-questions : ℕ → ℕ → List ℤ → Bands ℕ → List Question
-split-questions width height given rooms = size-questions 1 width height ++ split-rest (width * height) given rooms
+split-questions width height given rooms = size-questions 1 width height ++ splitting-questions (width * height) given rooms
 
--- join, of four bands into sums of so many numbers: 1 and 2 (from 1), 6, 7, 15
-abbrev pub join-rest : ℕ → Bands (List ℤ) → ℕ → List Question
-join-rest count given room =
+-- 6, 7 and 15 of join, where a plane has `count` numbers and the sums have room for so many
+abbrev pub joining-questions : ℕ → Bands (List ℤ) → ℕ → List Question
+joining-questions count given room =
     band-questions 6 count (lengths given) ++ (question 7 (eqb room count) ∷ values-questions to-join given)
 
+-- join: 1 and 2 (from 1), and then those
 abbrev pub join-questions : ℕ → ℕ → Bands (List ℤ) → ℕ → List Question
-join-questions width height given room = size-questions 1 width height ++ join-rest (width * height) given room
+join-questions width height given room = size-questions 1 width height ++ joining-questions (width * height) given room
 
 -- document 01's number of an answer
 abbrev pub number-of-answer : BankAnswer → ℕ

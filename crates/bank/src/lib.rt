@@ -11,7 +11,7 @@ ghost use Rattle.questions.specs.Questions.{ask, all-at-most};
 ghost use Rattle.turns.specs.Frames.{listing};
 ghost use Rattle.filters.specs.Bank.{split as split-plane, join as join-bands};
 ghost use Rattle.bank.specs.Planes.{Reach, Sizes, Plane, plane, bands-of};
-ghost use Rattle.bank.specs.Calls.{bands, values-questions, split-questions, join-questions, number-of-answer, SplitResult, JoinResult};
+ghost use Rattle.bank.specs.Calls.{bands, to-split, to-join, values-questions, split-questions, join-questions, number-of-answer, SplitResult, JoinResult};
 
 // What split and join answer.
 pub enum BankAnswer {
@@ -60,7 +60,7 @@ fn values_within(most: i32, values: &[i32]) -> bool
     found == 0
 }
 
-// Row r of the four bands: along the columns into the padded lines `low` and `high`, then along the row.
+// Row r of the four bands: along the columns into the padded lines `low` and `high`, then along the row. The two lines are scratch.
 fn split_row(
     given: &[i32],
     width: usize,
@@ -73,7 +73,7 @@ fn split_row(
     band3: &mut [i32],
     band4: &mut [i32],
 )
-    requires { ⌜ Sizes width height × Plane 8190 (now given) width height × (r < height) ⌝ }
+    requires { ⌜ Sizes width height × Plane to-split (now given) width height × (r < height) ⌝ }
     requires { ⌜ (width + 2 ≤ length (now low)) × (width + 2 ≤ length (now high)) ⌝ }
     requires { ⌜ (length (now band1) ≡ width * height) × (length (now band2) ≡ width * height) × (length (now band3) ≡ width * height) × (length (now band4) ≡ width * height) ⌝ }
     ensures { λ _. ⌜ now (band1 .exit) ≡ overwrite (now (band1 .entry)) (r * width) width (λ c. split-plane 1 width height (plane width (now (given .entry))) r c .band1) ⌝ }
@@ -101,7 +101,7 @@ fn split_rows(
     band3: &mut [i32],
     band4: &mut [i32],
 )
-    requires { ⌜ Sizes width height × Plane 8190 (now given) width height ⌝ }
+    requires { ⌜ Sizes width height × Plane to-split (now given) width height ⌝ }
     requires { ⌜ (width + 2 ≤ length (now low)) × (width + 2 ≤ length (now high)) ⌝ }
     requires { ⌜ (length (now band1) ≡ width * height) × (length (now band2) ≡ width * height) × (length (now band3) ≡ width * height) × (length (now band4) ≡ width * height) ⌝ }
     ensures { λ _. ⌜ now (band1 .exit) ≡ listing width height (λ r c. split-plane 1 width height (plane width (now (given .entry))) r c .band1) ⌝ }
@@ -206,7 +206,7 @@ pub fn split(
 }
 
 // Row r of the joined sums: along the columns, bands 1 and 3 into the padded line `low` and bands 2 and 4 into `high`, then along
-// the row.
+// the row. The two lines are scratch.
 fn join_row(
     band1: &[i32],
     band2: &[i32],
@@ -219,7 +219,7 @@ fn join_row(
     high: &mut [i32],
     sums: &mut [i32],
 )
-    requires { ⌜ Sizes width height × (r < height) × Plane 131040 (now band1) width height × Plane 131040 (now band2) width height × Plane 131040 (now band3) width height × Plane 131040 (now band4) width height ⌝ }
+    requires { ⌜ Sizes width height × (r < height) × Plane to-join (now band1) width height × Plane to-join (now band2) width height × Plane to-join (now band3) width height × Plane to-join (now band4) width height ⌝ }
     requires { ⌜ (width + 4 ≤ length (now low)) × (width + 4 ≤ length (now high)) × (length (now sums) ≡ width * height) ⌝ }
     ensures { λ _. ⌜ now (sums .exit) ≡ overwrite (now (sums .entry)) (r * width) width (join-bands 1 width height (bands-of width (bands (now (band1 .entry)) (now (band2 .entry)) (now (band3 .entry)) (now (band4 .entry)))) r) ⌝ }
 {
@@ -245,7 +245,7 @@ fn join_rows(
     high: &mut [i32],
     sums: &mut [i32],
 )
-    requires { ⌜ Sizes width height × Plane 131040 (now band1) width height × Plane 131040 (now band2) width height × Plane 131040 (now band3) width height × Plane 131040 (now band4) width height ⌝ }
+    requires { ⌜ Sizes width height × Plane to-join (now band1) width height × Plane to-join (now band2) width height × Plane to-join (now band3) width height × Plane to-join (now band4) width height ⌝ }
     requires { ⌜ (width + 4 ≤ length (now low)) × (width + 4 ≤ length (now high)) × (length (now sums) ≡ width * height) ⌝ }
     ensures { λ _. ⌜ now (sums .exit) ≡ listing width height (join-bands 1 width height (bands-of width (bands (now (band1 .entry)) (now (band2 .entry)) (now (band3 .entry)) (now (band4 .entry))))) ⌝ }
 {

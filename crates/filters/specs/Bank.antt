@@ -1,6 +1,6 @@
 -- Document 01, "Filter bank", on planes. A plane gives the value at a row and a column; its width and height stand beside it.
 -- Assumes nothing.
-use Prim.Native.Nat.{ℕ, _*_}
+use Prim.Native.Nat.{ℕ, _*_, _≤_}
 use lib.IntN.{ℤ, pos, negsuc, natAbs, _+ℤ_, _-ℤ_, _*ℤ_}
 use Rattle.integers.specs.Numbers.{rounded, clamp}
 use Rattle.border.specs.Border.{reflect}
@@ -80,3 +80,7 @@ join d w h bands r c =
 -- ---- bringing a sum back: (s + 512) whole-divided by 1,024, then clipped to 0..top
 unfoldable pub brought-back : ℕ → ℤ → ℕ
 brought-back top s = natAbs (clamp (pos 0) (pos top) (rounded 1024 s))
+
+-- ---- what the filters in code ask of a value: no partial sum of any of the four then leaves 32 bits
+abbrev pub Small : ℤ → Type 0
+Small z = natAbs z ≤ 134217728

@@ -1,13 +1,12 @@
 // Inner: the filters of document 01's bank, one number at a time. LLVM inlines each, so that the loops over them are uniform.
 ghost use mathlib.Core.Path.{_≡_};
-ghost use Prim.Native.Nat.{_≤_};
-ghost use lib.IntN.{pos, natAbs};
+ghost use lib.IntN.{pos};
 ghost use Rattle.integers.specs.Numbers.{whole-divided, rounded};
-ghost use Rattle.filters.specs.Bank.{low-split, high-split, low-join, high-join, weighted, brought-back};
+ghost use Rattle.filters.specs.Bank.{Small, low-split, high-split, low-join, high-join, weighted, brought-back};
 
 // 1 2 1
 pub fn low_split(a: i32, b: i32, c: i32) -> i32
-    requires { ⌜ (natAbs a ≤ 134217728) × (natAbs b ≤ 134217728) × (natAbs c ≤ 134217728) ⌝ }
+    requires { ⌜ Small a × Small b × Small c ⌝ }
     ensures { λ r. ⌜ r ≡ weighted low-split (pos 0) a b c (pos 0) ⌝ }
 {
     a + 2 * b + c
@@ -15,7 +14,7 @@ pub fn low_split(a: i32, b: i32, c: i32) -> i32
 
 // 1 −2 1
 pub fn high_split(a: i32, b: i32, c: i32) -> i32
-    requires { ⌜ (natAbs a ≤ 134217728) × (natAbs b ≤ 134217728) × (natAbs c ≤ 134217728) ⌝ }
+    requires { ⌜ Small a × Small b × Small c ⌝ }
     ensures { λ r. ⌜ r ≡ weighted high-split (pos 0) a b c (pos 0) ⌝ }
 {
     a - 2 * b + c
@@ -23,7 +22,7 @@ pub fn high_split(a: i32, b: i32, c: i32) -> i32
 
 // −1 2 6 2 −1
 pub fn low_join(a: i32, b: i32, c: i32, d: i32, e: i32) -> i32
-    requires { ⌜ (natAbs a ≤ 134217728) × (natAbs b ≤ 134217728) × (natAbs c ≤ 134217728) × (natAbs d ≤ 134217728) × (natAbs e ≤ 134217728) ⌝ }
+    requires { ⌜ Small a × Small b × Small c × Small d × Small e ⌝ }
     ensures { λ r. ⌜ r ≡ weighted low-join a b c d e ⌝ }
 {
     2 * (b + 3 * c + d) - (a + e)
@@ -31,7 +30,7 @@ pub fn low_join(a: i32, b: i32, c: i32, d: i32, e: i32) -> i32
 
 // 1 2 −6 2 1
 pub fn high_join(a: i32, b: i32, c: i32, d: i32, e: i32) -> i32
-    requires { ⌜ (natAbs a ≤ 134217728) × (natAbs b ≤ 134217728) × (natAbs c ≤ 134217728) × (natAbs d ≤ 134217728) × (natAbs e ≤ 134217728) ⌝ }
+    requires { ⌜ Small a × Small b × Small c × Small d × Small e ⌝ }
     ensures { λ r. ⌜ r ≡ weighted high-join a b c d e ⌝ }
 {
     2 * (b - 3 * c + d) + (a + e)

@@ -7,7 +7,7 @@ use denote.Ref.{now}
 use borrow.Author.Needs.{needs}
 use Rattle.questions.specs.Questions.{ask, size-questions}
 use Rattle.questions.proofs.Asking.{asking, ask-first, ask-later, AllYes, all-yes}
-use Rattle.bank.specs.Calls.{bands, join-rest, join-questions}
+use Rattle.bank.specs.Calls.{bands, joining-questions, join-questions}
 use Rattle.bank.proofs.Calls.{sizes-is}
 use Rattle.bank.proofs.join_refusal.Statement.{statement}
 use Rattle.bank.proofs.join_refusal.Tie as tie
@@ -30,7 +30,7 @@ mul-count c =
 rest : (c : tie.Else1) (m : ℕ)
     → let a = c .before .before .args in
     let given = bands (now (a .band1)) (now (a .band2)) (now (a .band3)) (now (a .band4)) in
-    m ≡ ask (join-rest (a .width * a .height) given (a .room)) → m ≡ ask (join-questions (a .width) (a .height) given (a .room))
+    m ≡ ask (joining-questions (a .width * a .height) given (a .room)) → m ≡ ask (join-questions (a .width) (a .height) given (a .room))
 rest c m r = ask-later (size-questions 1 (c .before .before .args .width) (c .before .before .args .height)) _ m (known c) r
 
 returns-2 : tie.Need-returns-2

@@ -9,7 +9,7 @@ use borrow.Author.Needs.{needs}
 use Rattle.integers.proofs.Tests.{tested}
 use Rattle.questions.specs.Questions.{ask, size-questions}
 use Rattle.questions.proofs.Asking.{asking, ask-first, ask-later, AllYes, all-yes}
-use Rattle.bank.specs.Calls.{bands, split-rest, split-questions}
+use Rattle.bank.specs.Calls.{bands, splitting-questions, split-questions}
 use Rattle.bank.proofs.Calls.{sizes-is}
 use Rattle.bank.proofs.split_refusal.Statement.{statement}
 use Rattle.bank.proofs.split_refusal.Tie as tie
@@ -32,7 +32,7 @@ mul-count c =
 rest : (c : tie.Else1) (m : ℕ)
     → let a = c .before .before .args in
     let rooms = bands (a .room1) (a .room2) (a .room3) (a .room4) in
-    m ≡ ask (split-rest (a .width * a .height) (now (a .given)) rooms) → m ≡ ask (split-questions (a .width) (a .height) (now (a .given)) rooms)
+    m ≡ ask (splitting-questions (a .width * a .height) (now (a .given)) rooms) → m ≡ ask (split-questions (a .width) (a .height) (now (a .given)) rooms)
 rest c m r = ask-later (size-questions 1 (c .before .before .args .width) (c .before .before .args .height)) _ m (known c) r
 
 returns-2 : tie.Need-returns-2
