@@ -43,30 +43,51 @@ row-laid w {h} {r} hr l e p q o = overwrite-row l 0 w r p (p r) (r * w) o (omega
 pub all-laid : (w : ℕ) {h r : ℕ} → r ≡ h → (l : List ℤ) → length l ≡ w * h → (p : ℕ → ℕ → ℤ) {m : List ℤ} → m ≡ rows-laid l w r p → m ≡ listing w h p
 all-laid w {h} z l e p q = q ∙ ap (λ (n : ℕ). rows-laid l w n p) z ∙ overwrite-plane l w h p e
 
--- ---- split
--- the three rows about row r
+-- ---- rows about a row
+-- five of them
+pub record NearFive (w h r a b d e : ℕ) : Type 0 where
+  pub inside : r < h
+  pub is-a : a ≡ reflect h (pos r -ℤ pos 2) * w
+  pub is-b : b ≡ reflect h (pos r -ℤ pos 1) * w
+  pub is-d : d ≡ reflect h (pos r +ℤ pos 1) * w
+  pub is-e : e ≡ reflect h (pos r +ℤ pos 2) * w
+
+module _ {w h r a b d e : ℕ} (near : NearFive w h r a b d e) where
+  -- along the columns
+  five-columns : (l : List ℤ) (t : Taps) (c : ℕ) → five t l a b (r * w) d e c ≡ along-columns t 1 h (plane w l) r c
+  unfolding five along-columns along tap plane-of
+  five-columns l t c = λ m. weighted t (value l (near .is-a m + c)) (value l (near .is-b m + c)) (value l (sym (reflect-inside h r (near .inside)) m * w + c)) (value l (near .is-d m + c)) (value l (near .is-e m + c))
+
+  pub five-rows : {m : ℕ} {l : List ℤ} → Plane m l w h → (most : ℕ) → m ≤ most → Runs most l a b (r * w) d e w
+  five-rows {m} {l} p most le = record {
+    first = row (pos r -ℤ pos 2) a (near .is-a);
+    second = row (pos r -ℤ pos 1) b (near .is-b);
+    third = row-run p most le r (r * w) (near .inside) refl;
+    fourth = row (pos r +ℤ pos 1) d (near .is-d);
+    fifth = row (pos r +ℤ pos 2) e (near .is-e);
+  }
+    where
+      row : (i : ℤ) (at : ℕ) → at ≡ reflect h i * w → Run most l at w
+      row i at q = row-run p most le (reflect h i) at (reflect-lt h (omega (arith, near .inside)) i) q
+
+-- and three
 pub record Near (w h r above below : ℕ) : Type 0 where
   pub inside : r < h
   pub is-above : above ≡ reflect h (pos r -ℤ pos 1) * w
   pub is-below : below ≡ reflect h (pos r +ℤ pos 1) * w
 
+-- with the two beyond them
+with-outer : {w h r above below : ℕ} → Near w h r above below → NearFive w h r (reflect h (pos r -ℤ pos 2) * w) above below (reflect h (pos r +ℤ pos 2) * w)
+with-outer n = record { inside = n .inside; is-a = refl; is-b = n .is-above; is-d = n .is-below; is-e = refl }
+
+-- ---- split
 module _ {w h r above below : ℕ} (near : Near w h r above below) (l : List ℤ) where
-  -- along the columns
   three-columns : (t : Taps) → t .far ≡ pos 0 → (c : ℕ) → three t l above (r * w) below c ≡ along-columns t 1 h (plane w l) r c
-  unfolding three along-columns along tap plane-of
-  three-columns t z c =
-      (λ m. weighted t (pos 0) (value l (near .is-above m + c)) (value l (sym (reflect-inside h r (near .inside)) m * w + c)) (value l (near .is-below m + c)) (pos 0))
-      ∙ weighted-three t z (X (pos r -ℤ pos 2)) (X (pos r -ℤ pos 1)) (X (pos r)) (X (pos r +ℤ pos 1)) (X (pos r +ℤ pos 2))
-    where
-      X : ℤ → ℤ
-      X i = value l (reflect h i * w + c)
+  unfolding three five
+  three-columns t z c = weighted-three t z _ _ _ _ _ ∙ five-columns (with-outer near) l t c
 
   pub three-rows : {m : ℕ} → Plane m l w h → (most : ℕ) → m ≤ most → Run most l above w × Run most l (r * w) w × Run most l below w
-  three-rows p most le = (
-    row-run p most le (reflect h (pos r -ℤ pos 1)) above (reflect-lt h (omega (arith, near .inside)) (pos r -ℤ pos 1)) (near .is-above),
-    row-run p most le r (r * w) (near .inside) refl,
-    row-run p most le (reflect h (pos r +ℤ pos 1)) below (reflect-lt h (omega (arith, near .inside)) (pos r +ℤ pos 1)) (near .is-below),
-  )
+  three-rows p most le = let q = five-rows (with-outer near) p most le in (q .second, q .third, q .fourth)
 
   -- the line that the columns' filter lays down, from place 1 on
   module _ (tc : Taps) (line : List ℤ) (room : 1 + w ≤ length line) {laid : List ℤ} (e : laid ≡ overwrite line 1 w (three tc l above (r * w) below)) where
@@ -88,44 +109,20 @@ module _ {w h r above below : ℕ} (near : Near w h r above below) (l : List ℤ
     band-laid tr z band at q = q ∙ overwrite-cong band at w _ _ (row-filtered tr z)
 
 -- ---- join
--- the five rows about row r
-pub record NearFive (w h r a b d e : ℕ) : Type 0 where
-  pub inside : r < h
-  pub is-a : a ≡ reflect h (pos r -ℤ pos 2) * w
-  pub is-b : b ≡ reflect h (pos r -ℤ pos 1) * w
-  pub is-d : d ≡ reflect h (pos r +ℤ pos 1) * w
-  pub is-e : e ≡ reflect h (pos r +ℤ pos 2) * w
-
 module _ {w h r a b d e : ℕ} (near : NearFive w h r a b d e) where
-  five-columns : (l : List ℤ) (t : Taps) (c : ℕ) → five t l a b (r * w) d e c ≡ along-columns t 1 h (plane w l) r c
-  unfolding five along-columns along tap plane-of
-  five-columns l t c = λ m. weighted t (value l (near .is-a m + c)) (value l (near .is-b m + c)) (value l (sym (reflect-inside h r (near .inside)) m * w + c)) (value l (near .is-d m + c)) (value l (near .is-e m + c))
-
-  pub five-rows : {m : ℕ} {l : List ℤ} → Plane m l w h → (most : ℕ) → m ≤ most → Runs most l a b (r * w) d e w
-  five-rows {m} {l} p most le = record {
-    first = row (pos r -ℤ pos 2) a (near .is-a);
-    second = row (pos r -ℤ pos 1) b (near .is-b);
-    third = row-run p most le r (r * w) (near .inside) refl;
-    fourth = row (pos r +ℤ pos 1) d (near .is-d);
-    fifth = row (pos r +ℤ pos 2) e (near .is-e);
-  }
-    where
-      row : (i : ℤ) (at : ℕ) → at ≡ reflect h i * w → Run most l at w
-      row i at q = row-run p most le (reflect h i) at (reflect-lt h (omega (arith, near .inside)) i) q
-
   -- the line of two bands that the columns' filters lay down, from place 2 on
   module _ (low high : List ℤ) (line : List ℤ) (room : 2 + w ≤ length line) {laid : List ℤ} (q : laid ≡ overwrite line 2 w (joined low high a b (r * w) d e)) where
     pub joined-run : {m : ℕ} → Plane m low w h → Plane m high w h → (most : ℕ) → 24 * m ≤ most → Run most laid 2 w
     unfolding joined gain low-join high-join
     joined-run {m} p s most h =
         subst (λ (x : List ℤ). Run most x 2 w) (sym q)
-        (run-laid most line 2 w (joined low high a b (r * w) d e) room (λ k i. omega (arith, abs-add (five low-join low a b (r * w) d e k) (five high-join high a b (r * w) d e k), five-range low-join (five-rows p m (le-refl m)) k i, five-range high-join (five-rows s m (le-refl m)) k i, h)))
+        (run-laid most line 2 w (joined low high a b (r * w) d e) room (λ k i. omega (arith, abs-add (five low-join low a b (r * w) d e k) (five high-join high a b (r * w) d e k), five-range low-join (five-rows near p m (le-refl m)) k i, five-range high-join (five-rows near s m (le-refl m)) k i, h)))
 
     joined-at : (k : ℕ) → k < w → value laid (2 + k) ≡ along-columns low-join 1 h (plane w low) r k +ℤ along-columns high-join 1 h (plane w high) r k
     unfolding joined
     joined-at k i =
         ap (λ (x : List ℤ). value x (2 + k)) q ∙ overwrite-in line 2 w (joined low high a b (r * w) d e) k (pos 0) room i
-        ∙ (λ m. five-columns low low-join k m +ℤ five-columns high high-join k m)
+        ∙ (λ m. five-columns near low low-join k m +ℤ five-columns near high high-join k m)
 
     row-joined : (t : Taps) (c : ℕ) → c < w → along t 1 w (λ k. value laid (2 + k)) c ≡ along t 1 w (λ k. along-columns low-join 1 h (plane w low) r k +ℤ along-columns high-join 1 h (plane w high) r k) c
     row-joined t c hc =
