@@ -1,7 +1,7 @@
 -- Row by row: what the filters along lines lay down is a row of the bands, and a row of the joined sums. Assumes nothing.
 use mathlib.Core.Path.{_≡_, refl, sym, _∙_, ap, subst}
 use mathlib.Core.List.{List}
-use Prim.Native.Nat.{ℕ, _+_, _*_, _/_, _%_, _≤_, _<_}
+use Prim.Native.Nat.{ℕ, _+_, _*_, _≤_, _<_}
 use native.Mathlib.Nat.{le-trans, le-refl}
 use native.Mathlib.Omega.{arith}
 use lib.IntN.{ℤ, pos, _+ℤ_, _-ℤ_}
@@ -11,8 +11,8 @@ use Rattle.integers.proofs.Lists.{overwrite-in, overwrite-cong}
 use Rattle.integers.proofs.Bounds.{abs-add}
 use Rattle.border.specs.Border.{reflect}
 use Rattle.border.proofs.Reflection.{reflect-lt, reflect-inside}
-use Rattle.turns.specs.Frames.{listing, plane-of}
-use Rattle.turns.proofs.Frames.{row-room, place-inside, overwrite-row, overwrite-plane}
+use Rattle.turns.specs.Frames.{plane-of}
+use Rattle.turns.proofs.Frames.{row-room, place-inside}
 use Rattle.filters.specs.Bank.{Taps, weighted, tap, along, along-columns, filtered, Bands, join, low-join, high-join}
 use Rattle.filters.proofs.Taps.{weighted-three}
 use Rattle.filters.proofs.Ranges.{gain}
@@ -30,18 +30,6 @@ row-run {m} {l} {w} {h} p most le i at hi e = record {
 
 pub row-small : {w h : ℕ} → Sizes w h → (i : ℕ) → i < h → i * w + w ≤ 4194304
 row-small {w} {h} s i hi = omega (arith, row-room w h i hi, s .area)
-
--- n rows of plane p, laid down from the start of a list
-abbrev pub rows-laid : List ℤ → ℕ → ℕ → (ℕ → ℕ → ℤ) → List ℤ
-rows-laid l w n p = overwrite l 0 (n * w) (λ k. p (k / w) (k % w))
-
--- the next one
-pub row-laid : (w : ℕ) {h r : ℕ} → r < h → (l : List ℤ) → length l ≡ w * h → (p : ℕ → ℕ → ℤ) {m out : List ℤ} → m ≡ rows-laid l w r p → out ≡ overwrite m (r * w) w (p r) → out ≡ rows-laid l w (r + 1) p
-row-laid w {h} {r} hr l e p q o = overwrite-row l 0 w r p (p r) (r * w) o (omega arith) (omega (arith, row-room w h r hr)) q (λ j b. refl)
-
--- all of them
-pub all-laid : (w : ℕ) {h r : ℕ} → r ≡ h → (l : List ℤ) → length l ≡ w * h → (p : ℕ → ℕ → ℤ) {m : List ℤ} → m ≡ rows-laid l w r p → m ≡ listing w h p
-all-laid w {h} z l e p q = q ∙ ap (λ (n : ℕ). rows-laid l w n p) z ∙ overwrite-plane l w h p e
 
 -- ---- rows about a row
 -- five of them

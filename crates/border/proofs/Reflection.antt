@@ -3,8 +3,9 @@ use mathlib.Core.Path.{_≡_, refl, sym, _∙_, ap, subst}
 use mathlib.Core.List.{[], _∷_}
 use Prim.Native.Nat.{ℕ, zero, suc, _+_, _*_, _-_, _/_, _%_, _≤_, _<_, min, max}
 use native.Mathlib.Decide.{decLt, decLe}
-use native.Mathlib.Nat.{mod-lt, mod-eq-of-lt, add-mod-right, mod-add-div', mod-one, zero-mod, mod-self}
+use native.Mathlib.Nat.{mod-lt, mod-eq-of-lt, add-mod-right, mod-add-div', div-add-mod', mod-one, zero-mod, mod-self, suc-mul, add-zero, zero-add}
 use native.Mathlib.Omega.{arith}
+use lib.Arith.{digits-mod}
 use lib.IntN.{ℤ, pos, negsuc, negℤ, natAbs, _+ℤ_, _-ℤ_}
 use borrow.Author.Tests.{lt-ltb, le-ltb}
 use Rattle.integers.proofs.Bounds.{abs-neg, minus-pos, minus-neg}
@@ -267,3 +268,55 @@ reflect-forth n i b h = ap (reflect n) (sym (minus-pos i b h))
 
 pub reflect-back : (n i b : ℕ) → i < b → reflect n (pos (b - i)) ≡ reflect n (pos i -ℤ pos b)
 reflect-back n i b h = ap (λ (m : ℕ). reflect n (pos m)) (omega arith) ∙ reflect-neg n (negsuc (b - suc i)) ∙ ap (reflect n) (sym (minus-neg i b h))
+
+-- ---- a place k steps away means a place at most k steps away
+-- a remainder goes on by one, or begins again
+mod-next : (m p : ℕ) → 0 < p → (G : Type 0) → (suc m % p ≡ suc (m % p) → G) → (suc m % p ≡ 0 → suc (m % p) ≡ p → G) → G
+mod-next m p some G f g = go (decLt (suc (m % p)) p)
+  where
+    whole : m / p * p + m % p ≡ m
+    whole = div-add-mod' m p
+
+    go : Dec (suc (m % p) < p) → G
+    go (yes h) = f (ap (λ (x : ℕ). x % p) next ∙ digits-mod (m / p) h)
+      where
+        next : suc m ≡ m / p * p + suc (m % p)
+        next = omega (arith, whole)
+    go (no h) = g (ap (λ (x : ℕ). x % p) next ∙ digits-mod (suc (m / p)) some) last
+      where
+        last : suc (m % p) ≡ p
+        last = omega (arith, h, mod-lt m some)
+
+        next : suc m ≡ suc (m / p) * p + 0
+        next = omega (arith, whole, last, suc-mul (m / p) p)
+
+-- one step
+reflect-next : (n m : ℕ) → 0 < n → (reflect n (pos (suc m)) ≤ suc (reflect n (pos m))) × (reflect n (pos m) ≤ suc (reflect n (pos (suc m))))
+reflect-next n m some = rw (reflect-is n (pos (suc m)), reflect-is n (pos m)) (mod-next m (period n) (period-pos n) (Near (suc m % period n) (m % period n)) (λ e. rw e (on (m % period n))) (λ e f. rw e (again (m % period n) f)))
+  where
+    Near : ℕ → ℕ → Type 0
+    Near a b = (fold n a ≤ suc (fold n b)) × (fold n b ≤ suc (fold n a))
+
+    on : (k : ℕ) → Near (suc k) k
+    on k = unfold fold in (omega arith, omega arith)
+
+    again : (k : ℕ) → suc k ≡ period n → Near 0 k
+    again k e = unfold fold period in (omega arith, omega arith)
+
+pub reflect-after : (n i k : ℕ) → i < n → (i ≤ reflect n (pos (i + k)) + k) × (reflect n (pos (i + k)) ≤ i + k)
+reflect-after n i zero h = let e : reflect n (pos (i + 0)) ≡ i = ap (λ (x : ℕ). reflect n (pos x)) (add-zero i) ∙ reflect-inside n i h in (omega arith, omega arith)
+reflect-after n i (suc k) h =
+    let q = reflect-after n i k h in
+    let s = reflect-next n (i + k) (omega arith) in
+    let e : i + suc k ≡ suc (i + k) = omega arith in
+    rw e (omega (arith, q .0, s .1), omega (arith, q .1, s .0))
+
+pub reflect-before : (n i k : ℕ) → i < n → (i ≤ reflect n (pos i -ℤ pos k) + k) × (reflect n (pos i -ℤ pos k) ≤ i + k)
+reflect-before n i k h = go (decLe k i)
+  where
+    go : Dec (k ≤ i) → (i ≤ reflect n (pos i -ℤ pos k) + k) × (reflect n (pos i -ℤ pos k) ≤ i + k)
+    go (yes b) = let e : reflect n (pos i -ℤ pos k) ≡ i - k = sym (reflect-forth n i k b) ∙ reflect-inside n (i - k) (omega arith) in (omega arith, omega arith)
+    go (no b) =
+        let q = reflect-after n 0 (k - i) (omega arith) in
+        let e : reflect n (pos (0 + (k - i))) ≡ reflect n (pos i -ℤ pos k) = ap (λ (x : ℕ). reflect n (pos x)) (zero-add (k - i)) ∙ reflect-back n i k (omega arith) in
+        (omega arith, omega (arith, q .1))

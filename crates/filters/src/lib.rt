@@ -1,7 +1,7 @@
 // Inner: the filters of document 01's bank, one number at a time. LLVM inlines each, so that the loops over them are uniform.
 ghost use mathlib.Core.Path.{_≡_};
 ghost use lib.IntN.{pos};
-ghost use Rattle.integers.specs.Numbers.{whole-divided, rounded};
+ghost use Rattle.integers.specs.Numbers.{whole-divided, rounded, clamp};
 ghost use Rattle.filters.specs.Bank.{Small, low-split, high-split, low-join, high-join, weighted, brought-back};
 
 // 1 2 1
@@ -58,16 +58,23 @@ pub fn rounded_quotient(sum: i32) -> i32
     }
 }
 
-// A sum brought back: the rounded quotient, clipped to 0..4,095.
+// A sum brought back to low..high: the rounded quotient, clipped.
+pub fn rescale(sum: i32, low: i32, high: i32) -> i32
+    ensures { λ r. ⌜ r ≡ clamp low high (rounded 1024 sum) ⌝ }
+{
+    let quotient = rounded_quotient(sum);
+    if quotient < low {
+        return low;
+    }
+    if high < quotient {
+        return high;
+    }
+    quotient
+}
+
+// A sum brought back to a sample, 0..4,095.
 pub fn bring_back(sum: i32) -> u16
     ensures { λ r. ⌜ r ≡ brought-back 4095 sum ⌝ }
 {
-    let quotient = rounded_quotient(sum);
-    if quotient < 0 {
-        return 0;
-    }
-    if 4095 < quotient {
-        return 4095;
-    }
-    quotient as u16
+    rescale(sum, 0, 4095) as u16
 }

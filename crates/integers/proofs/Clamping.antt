@@ -1,13 +1,13 @@
 -- The laws of clipping. Assumes nothing.
-use mathlib.Core.Path.{_≡_, refl, sym, ap, subst}
+use mathlib.Core.Path.{_≡_, refl, sym, _∙_, ap, subst}
 use mathlib.Core.Bool.{Bool, true, false, cond}
 use Prim.Native.Nat.{ℕ, _≤_}
 use native.Mathlib.Omega.{arith}
 use lib.Dec.{leb→le}
-use lib.IntN.{ℤ, pos, negsuc, natAbs}
+use lib.IntN.{ℤ, pos, negsuc, natAbs, _+ℤ_}
 use lib.Signed.{ltZ, _≤ℤ_, ≤ℤ-refl}
 use Rattle.integers.specs.Numbers.{clamp}
-use Rattle.integers.proofs.Order.{≤ℤ-trans, ≤ℤ-antisym, le-of-lt, le-of-not-lt, not-lt-of-le, abs-between}
+use Rattle.integers.proofs.Order.{≤ℤ-trans, ≤ℤ-antisym, le-of-lt, le-of-not-lt, not-lt-of-le, abs-between, lt-moved}
 
 -- ---- by the two tests, as code makes them
 pub clamp-low : (lo hi z : ℤ) → ltZ z lo ≡ true → clamp lo hi z ≡ lo
@@ -67,3 +67,14 @@ clamp-sample top z =
 
 pub clamp-bound : (lo hi : ℤ) {m : ℕ} → natAbs lo ≤ m → natAbs hi ≤ m → (z : ℤ) → natAbs (clamp lo hi z) ≤ m
 clamp-bound lo hi {m} p q z = clamp-cases lo hi z (λ x. natAbs x ≤ m) (λ e. p) (λ e. q) (λ h k. abs-between h k p q)
+
+-- ---- clipping moves with its ends
+-- a number clipped, all three k more
+pub clamp-moved : (lo hi z k : ℤ) → clamp (lo +ℤ k) (hi +ℤ k) (z +ℤ k) ≡ clamp lo hi z +ℤ k
+unfolding clamp
+clamp-moved lo hi z k = (λ i. cond (lt-moved z lo k i) (lo +ℤ k) (cond (lt-moved hi z k i) (hi +ℤ k) (z +ℤ k))) ∙ pick (ltZ z lo) (ltZ hi z)
+  where
+    pick : (s t : Bool) → cond s (lo +ℤ k) (cond t (hi +ℤ k) (z +ℤ k)) ≡ cond s lo (cond t hi z) +ℤ k
+    pick true t = refl
+    pick false true = refl
+    pick false false = refl

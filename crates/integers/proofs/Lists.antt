@@ -139,20 +139,20 @@ module _ {A : Type 0} where
       next : m + n + 1 ≡ m + suc n
       next = omega arith
 
-  -- the same part, overwritten again (d is any element)
-  pub overwrite-again : (d : A) (l : List A) (o n : ℕ) (f g : ℕ → A) → o + n ≤ length l → overwrite (overwrite l o n f) o n g ≡ overwrite l o n g
-  overwrite-again d l o n f g h =
+  -- a part, and then a part over it that is as long or longer (d is any element)
+  pub overwrite-again : (d : A) (l : List A) (o m n : ℕ) (f g : ℕ → A) → m ≤ n → o + n ≤ length l → overwrite (overwrite l o m f) o n g ≡ overwrite l o n g
+  overwrite-again d l o m n f g le h =
       ext-getD d (overwrite L o n g) (overwrite l o n g) (length-overwrite L o n g fit ∙ long ∙ sym (length-overwrite l o n g h))
       (λ k u. overwrite-at L o n g k d (getD (overwrite l o n g) k d) fit
-      (λ b. overwrite-before l o n f k d h b ∙ sym (overwrite-before l o n g k d h b))
+      (λ b. overwrite-before l o m f k d (omega arith) b ∙ sym (overwrite-before l o n g k d h b))
       (λ i b e. sym (ap (λ (j : ℕ). getD (overwrite l o n g) j d) e ∙ overwrite-in l o n g i d h b))
-      (λ b. overwrite-after l o n f k d h b ∙ sym (overwrite-after l o n g k d h b)))
+      (λ b. overwrite-after l o m f k d (omega arith) (omega arith) ∙ sym (overwrite-after l o n g k d h b)))
     where
       L : List A
-      L = overwrite l o n f
+      L = overwrite l o m f
 
       long : length L ≡ length l
-      long = length-overwrite l o n f h
+      long = length-overwrite l o m f (omega arith)
 
       fit : o + n ≤ length L
       fit = omega (arith, long)

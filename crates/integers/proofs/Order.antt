@@ -6,7 +6,7 @@ use Prim.Native.Nat.{ℕ, suc, _+_, _-_, _≤_, _<_}
 use native.Mathlib.Nat.{le-trans, le-antisymm}
 use native.Mathlib.Omega.{arith}
 use lib.Dec.{T, ltb, leb→le, le→leb, ltb→lt}
-use lib.IntN.{ℤ, pos, negsuc, negℤ, natAbs, _+ℤ_}
+use lib.IntN.{ℤ, pos, negsuc, negℤ, natAbs, _+ℤ_, _-ℤ_, +ℤ-negℤ-cancel}
 use lib.Signed.{ltZ, leZ, _≤ℤ_, ltZ-no}
 use Rattle.integers.proofs.Tests.{cond-cases, true-is, never}
 use Rattle.integers.proofs.Linear.{linear, x₀, x₁, x₂, neg, _⊕_}
@@ -89,3 +89,16 @@ abs-between {lo} {hi} {z} {m} h k p q = go lo hi z (h .le) (k .le) p q
     go lo (negsuc b) (pos c) h k p q = absurd k
     go (pos a) hi (negsuc c) h k p q = absurd h
     go (negsuc a) hi (negsuc c) h k p q = let l : c ≤ a = leb→le c a h in omega arith
+
+-- an order test of two numbers, both k more
+pub lt-moved : (a b k : ℤ) → ltZ (a +ℤ k) (b +ℤ k) ≡ ltZ a b
+lt-moved a b k = go (ltZ (a +ℤ k) (b +ℤ k)) (ltZ a b) (λ e. not-lt-of-le (back (le-of-not-lt _ _ e))) (λ e. not-lt-of-le (≤ℤ-add (le-of-not-lt a b e) k))
+  where
+    back : (b +ℤ k) ≤ℤ (a +ℤ k) → b ≤ℤ a
+    back h = subst (λ (x : ℤ). x ≤ℤ a) (+ℤ-negℤ-cancel b k) (subst (λ (y : ℤ). (b +ℤ k -ℤ k) ≤ℤ y) (+ℤ-negℤ-cancel a k) (≤ℤ-add h (negℤ k)))
+
+    go : (s t : Bool) → (s ≡ false → t ≡ false) → (t ≡ false → s ≡ false) → s ≡ t
+    go true true f g = refl
+    go true false f g = g refl
+    go false true f g = sym (f refl)
+    go false false f g = refl

@@ -29,7 +29,11 @@ read l k = toZ w32 (ofZ w32 (value l k))
 pub read-small : {m : ℕ} {l : List ℤ} {o n : ℕ} (b : ℕ) → m ≤ b → Run m l o n → (k : ℕ) → k < n → natAbs (read l (o + k)) ≤ b
 read-small {l = l} {o = o} b h run k i = omega (arith, abs-read w32 (value l (o + k)), run .small k i)
 
-read-value : {m : ℕ} {l : List ℤ} {o n : ℕ} → m < 2147483648 → Run m l o n → (k : ℕ) → k < n → read l (o + k) ≡ value l (o + k)
+-- within a larger bound too
+pub run-wider : {m most : ℕ} → m ≤ most → {l : List ℤ} {o n : ℕ} → Run m l o n → Run most l o n
+run-wider h r = record { inside = r .inside; small = λ k i. omega (arith, h, r .small k i) }
+
+pub read-value : {m : ℕ} {l : List ℤ} {o n : ℕ} → m < 2147483648 → Run m l o n → (k : ℕ) → k < n → read l (o + k) ≡ value l (o + k)
 read-value {l = l} {o = o} h run k i = back (fits-abs w32 (value l (o + k)) (omega (arith, run .small k i)))
 
 -- what stands before what was laid down, or after it, is as it was
@@ -178,7 +182,7 @@ module _ {low : List ℤ} {a b c d e n : ℕ} (r : Runs 67108864 low a b c d e n
   unfolding joined
   joined-laid high p =
       p ∙ (λ m. overwrite (laid m) at n (λ k. value (laid m) (at + k) +ℤ five high-join high a b c d e k))
-      ∙ overwrite-again (pos 0) out at n (five low-join low a b c d e) (λ k. value (overwrite out at n (five low-join low a b c d e)) (at + k) +ℤ five high-join high a b c d e k) room
+      ∙ overwrite-again (pos 0) out at n n (five low-join low a b c d e) (λ k. value (overwrite out at n (five low-join low a b c d e)) (at + k) +ℤ five high-join high a b c d e k) (omega arith) room
       ∙ overwrite-cong out at n _ _ (λ k i. ap (λ (x : ℤ). x +ℤ five high-join high a b c d e k) (overwrite-in out at n (five low-join low a b c d e) k (pos 0) room i))
 
 -- a padded line, and then the filters along it

@@ -132,7 +132,7 @@ fn pad_side(line: &mut [i32], n: usize, pad: usize, from: usize)
 }
 
 // Both sides of a padded line.
-fn pad_line(line: &mut [i32], n: usize, pad: usize)
+pub fn pad_line(line: &mut [i32], n: usize, pad: usize)
     requires { ⌜ (1 ≤ n) × (n ≤ 2048) × (pad ≤ 2) × (pad + n + pad ≤ length (now line)) ⌝ }
     ensures { λ _. ⌜ now (line .exit) ≡ padded n pad (now (line .entry)) ⌝ }
 {

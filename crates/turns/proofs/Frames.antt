@@ -79,6 +79,18 @@ module _ {A : Type 0} where
   unfolding listing
   overwrite-plane l w h p e = ap (λ (n : ℕ). overwrite l 0 n (λ k. p (k / w) (k % w))) (mul-comm h w) ∙ overwrite-all l (w * h) (λ k. p (k / w) (k % w)) (sym e)
 
+  -- n rows of it, from the start of a list
+  abbrev pub rows-laid : List A → ℕ → ℕ → (ℕ → ℕ → A) → List A
+  rows-laid l w n p = overwrite l 0 (n * w) (λ k. p (k / w) (k % w))
+
+  -- the next one
+  pub row-laid : (w : ℕ) {h r : ℕ} → r < h → (l : List A) → length l ≡ w * h → (p : ℕ → ℕ → A) {m out : List A} → m ≡ rows-laid l w r p → out ≡ overwrite m (r * w) w (p r) → out ≡ rows-laid l w (r + 1) p
+  row-laid w {h} {r} hr l e p q o = overwrite-row l 0 w r p (p r) (r * w) o (omega arith) (omega (arith, row-room w h r hr)) q (λ j b. refl)
+
+  -- all of them
+  pub all-laid : (w : ℕ) {h r : ℕ} → r ≡ h → (l : List A) → length l ≡ w * h → (p : ℕ → ℕ → A) {m : List A} → m ≡ rows-laid l w r p → m ≡ listing w h p
+  all-laid w {h} z l e p q = q ∙ ap (λ (n : ℕ). rows-laid l w n p) z ∙ overwrite-plane l w h p e
+
 -- ---- frames and pictures
 pub picture-of-frame : (p : Picture ℕ) → picture-of (frame-of p) ≈ p
 unfolding picture-of frame-of

@@ -6,11 +6,10 @@ use native.Mathlib.Omega.{arith}
 use lib.IntN.{ℤ}
 use lib.ListN.{length}
 use denote.Ref.{now}
-use Rattle.turns.proofs.Frames.{overwrite-no-row}
+use Rattle.turns.proofs.Frames.{overwrite-no-row, rows-laid, row-laid, all-laid}
 use Rattle.filters.specs.Bank.{join}
 use Rattle.bank.specs.Planes.{bands-of}
 use Rattle.bank.specs.Calls.{bands}
-use Rattle.bank.proofs.Rows.{rows-laid, row-laid, all-laid}
 use Rattle.bank.proofs.join_rows.Statement.{statement}
 use Rattle.bank.proofs.join_rows.Tie as tie
 
