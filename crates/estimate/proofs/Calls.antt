@@ -1,0 +1,56 @@
+-- The laws of the estimate call: what an accepted call knows, and what it leaves. Assumes nothing.
+use mathlib.Core.Path.{_≡_, refl, _∙_}
+use mathlib.Core.List.{List}
+use Prim.Native.Nat.{ℕ, _*_}
+use native.Mathlib.Omega.{arith}
+use lib.ListN.{length}
+use borrow.Author.Tests.{eqb-true}
+use Rattle.questions.specs.Questions.{ask, ceiling}
+use Rattle.questions.proofs.Asking.{all-yes, Shape, shape-is}
+use Rattle.questions.proofs.Answering.{answer-no, answer-yes, left-no, left-yes}
+use Rattle.turns.specs.Frames.{Frame}
+use Rattle.estimate.specs.Inner.{Mosaic}
+use Rattle.estimate.specs.Calls.{Planes, lengths, estimate-questions, number-of-answer, estimate-lists, EstimateResult}
+use Rattle.estimate.specs.declared.EstimateAnswer.the-variants.{Accepted, Refused}
+
+mosaic-is : (w h l : ℕ) (s : List ℕ) → Shape w h l → length s ≡ w * h → Mosaic s w h
+mosaic-is w h l s z e = record {
+  width-from = omega (arith, z .width-from);
+  width-to = z .width-to;
+  height-from = omega (arith, z .height-from);
+  height-to = z .height-to;
+  area = z .area;
+  count = e;
+}
+
+pub record Estimable (f : Frame) (rooms : Planes ℕ) : Type 0 where
+  pub mosaic : Mosaic (f .samples) (f .width) (f .height)
+  pub red : rooms .red ≡ f .width * f .height
+  pub green : rooms .green ≡ f .width * f .height
+  pub blue : rooms .blue ≡ f .width * f .height
+
+pub estimable : (f : Frame) (rooms : Planes ℕ) (n : ℕ) → n ≡ ask (estimate-questions f rooms) → n ≡ 0 → Estimable f rooms
+estimable f rooms n e z =
+    let y = all-yes (estimate-questions f rooms) tt n e z in
+    let q = y .1 .1 .1 in
+    let count = f .width * f .height in
+    record {
+      mosaic = mosaic-is (f .width) (f .height) (f .layout) (f .samples) (shape-is (f .width) (f .height) (f .layout) (y .0, (y .1 .0, (y .1 .1 .0, tt)))) (eqb-true (length (f .samples)) count (q .0));
+      red = eqb-true (rooms .red) count (q .1 .0);
+      green = eqb-true (rooms .green) count (q .1 .1 .0);
+      blue = eqb-true (rooms .blue) count (q .1 .1 .1 .0);
+    }
+
+-- ---- what it leaves, refused and accepted
+module _ (f : Frame) (before : Planes (List ℕ)) (n : ℕ) (e : n ≡ ask (estimate-questions f (lengths before))) where
+  pub estimate-no : (n ≡ 0 → ⊥) → EstimateResult f before (Refused n) before
+  estimate-no z = record {
+    answer = answer-no number-of-answer (estimate-questions f (lengths before)) Accepted (Refused n) e z;
+    buffers = left-no (estimate-questions f (lengths before)) (estimate-lists ceiling f) before n e z;
+  }
+
+  pub estimate-yes : n ≡ 0 → (after : Planes (List ℕ)) → after ≡ estimate-lists ceiling f → EstimateResult f before Accepted after
+  estimate-yes z after p = record {
+    answer = answer-yes number-of-answer (estimate-questions f (lengths before)) Accepted Accepted n e z refl refl;
+    buffers = p ∙ left-yes (estimate-questions f (lengths before)) (estimate-lists ceiling f) before n e z;
+  }

@@ -1,0 +1,50 @@
+-- The estimate call: what it asks, and what its answer and its planes are then. Assumes nothing.
+use mathlib.Core.Path.{_≡_}
+use mathlib.Core.List.{List, [], _∷_, _++_}
+use Prim.Native.Nat.{ℕ, _*_}
+use lib.Dec.{eqb}
+use lib.ListN.{length}
+use Rattle.questions.specs.Questions.{Question, question, ceiling, shape-questions, samples-question}
+use Rattle.questions.specs.Answers.{Answered, if-accepted}
+use Rattle.turns.specs.Frames.{Frame, listing, plane-of}
+use Rattle.estimate.specs.Estimates.{estimate}
+use Rattle.estimate.specs.declared.EstimateAnswer.{EstimateAnswer}
+use Rattle.estimate.specs.declared.EstimateAnswer.the-variants as estimate-answer
+
+-- one of a kind for each of the three planes
+pub record Planes (A : Type 0) : Type 0 where
+  pub red : A
+  pub green : A
+  pub blue : A
+
+abbrev pub planes : {A : Type 0} → A → A → A → Planes A
+planes r g b = record { red = r; green = g; blue = b }
+
+abbrev pub lengths : Planes (List ℕ) → Planes ℕ
+lengths p = planes (length (p .red)) (length (p .green)) (length (p .blue))
+
+-- ---- the questions, in document 01's order: 1, 2, 3, 6, 7 of each plane, 9
+abbrev pub estimate-questions : Frame → Planes ℕ → List Question
+estimate-questions f rooms =
+    shape-questions (f .width) (f .height) (f .layout)
+    ++ (question 6 (eqb (length (f .samples)) (f .width * f .height))
+    ∷ question 7 (eqb (rooms .red) (f .width * f .height)) ∷ question 7 (eqb (rooms .green) (f .width * f .height)) ∷ question 7 (eqb (rooms .blue) (f .width * f .height))
+    ∷ samples-question ceiling (f .samples) ∷ [])
+
+-- document 01's number of an answer
+abbrev pub number-of-answer : EstimateAnswer → ℕ
+number-of-answer estimate-answer.Accepted = 0
+number-of-answer (estimate-answer.Refused number) = number
+
+-- ---- what is promised
+-- the three planes of a frame, row by row
+unfoldable pub estimate-lists : ℕ → Frame → Planes (List ℕ)
+estimate-lists top f =
+    planes (listing (f .width) (f .height) (λ r c. estimate top (f .width) (f .height) (f .layout) (plane-of 0 (f .width) (f .samples)) r c .red))
+    (listing (f .width) (f .height) (λ r c. estimate top (f .width) (f .height) (f .layout) (plane-of 0 (f .width) (f .samples)) r c .green))
+    (listing (f .width) (f .height) (λ r c. estimate top (f .width) (f .height) (f .layout) (plane-of 0 (f .width) (f .samples)) r c .blue))
+
+-- The estimate call, given frame f and three planes that held `before`: its answer r, and what the planes hold `after`.
+pub record EstimateResult (f : Frame) (before : Planes (List ℕ)) (r : EstimateAnswer) (after : Planes (List ℕ)) : Type 0 where
+  pub answer : Answered number-of-answer (estimate-questions f (lengths before)) estimate-answer.Accepted r
+  pub buffers : after ≡ if-accepted (estimate-questions f (lengths before)) (estimate-lists ceiling f) before
