@@ -1,0 +1,89 @@
+-- The sums of the projection, along lines that stand in lists: what of a difference's details lies outside a limit, and what those
+-- parts are joined to. Assumes nothing.
+use mathlib.Core.List.{List}
+use Prim.Native.Nat.{ℕ, _+_, _*_, _≤_, _<_}
+use lib.Dec.{T}
+use lib.IntN.{ℤ, pos, negℤ, natAbs, _+ℤ_, _-ℤ_, _*ℤ_}
+use lib.ListN.{getD, length}
+use lib.Signed.{nonNeg}
+use Rattle.integers.specs.Numbers.{rounded, clamp}
+use Rattle.border.specs.Border.{reflect}
+use Rattle.filters.specs.Bank.{Taps, weighted, along, low-split, high-split, high-join}
+use Rattle.lines.specs.Lines.{value, Run, three}
+
+-- a limit, as a number of the machine
+pub record Limit (limit : ℤ) : Type 0 where
+  pub sign : T (nonNeg limit)
+  pub small : natAbs limit ≤ 1073741824
+
+-- the part of z outside −limit..limit
+unfoldable pub excess : ℤ → ℤ → ℤ
+excess limit z = z -ℤ clamp (negℤ limit) limit z
+
+-- ---- the difference of a plane and its guide
+-- place k of the guide's samples that stand `step` apart, from `from` on
+unfoldable pub guide-value : List ℕ → ℕ → ℕ → ℕ → ℤ
+guide-value guide from step k = pos (getD guide (from + k * step) 0)
+
+unfoldable pub difference-line : List ℤ → ℕ → List ℕ → ℕ → ℕ → ℕ → ℤ
+difference-line own at guide from step k = value own (at + k) -ℤ guide-value guide from step k
+
+-- n samples from `from` on, `step` apart, are in the list
+pub record Samples (guide : List ℕ) (from step n : ℕ) : Type 0 where
+  pub inside : (k : ℕ) → k < n → from + k * step < length guide
+
+-- ---- along a padded line of n
+-- its places, the ones after them, and the ones after those
+pub record Triple (m : ℕ) (line : List ℤ) (n : ℕ) : Type 0 where
+  pub first : Run m line 0 n
+  pub second : Run m line 1 n
+  pub third : Run m line 2 n
+
+-- what of a split filter's value lies outside the limit
+unfoldable pub outer : Taps → ℤ → List ℤ → ℕ → ℤ
+outer t limit line k = excess limit (three t line 0 1 2 k)
+
+-- both filters' parts: their difference and their sum
+unfoldable pub outer-minus : ℤ → List ℤ → ℕ → ℤ
+outer-minus limit line k = outer high-split limit line k -ℤ outer low-split limit line k
+
+unfoldable pub outer-plus : ℤ → List ℤ → ℕ → ℤ
+outer-plus limit line k = outer high-split limit line k +ℤ outer low-split limit line k
+
+-- ---- along a line, reflected at its border
+-- the line that begins at a place of a list
+abbrev pub from-place : ℕ → List ℤ → ℕ → ℤ
+from-place pad l k = value l (pad + k)
+
+unfoldable pub outer-part : Taps → ℤ → ℕ → (ℕ → ℤ) → ℕ → ℤ
+outer-part t limit n line i = excess limit (along t 1 n line i)
+
+-- ---- joined
+-- Five values, of one list and of another in turn, through the high join taps. Where the one holds q − p and the other q + p, this is p
+-- through the low join taps and q through the high ones (law `crossed-joins`).
+unfoldable pub crossed : List ℤ → List ℤ → ℕ → ℕ → ℕ → ℕ → ℕ → ℕ → ℤ
+crossed x y a b c d e k = weighted high-join (value x (a + k)) (value y (b + k)) (value x (c + k)) (value y (d + k)) (value x (e + k))
+
+-- five such runs of n places
+pub record Crossing (m : ℕ) (x y : List ℤ) (a b c d e n : ℕ) : Type 0 where
+  pub first : Run m x a n
+  pub second : Run m y b n
+  pub third : Run m x c n
+  pub fourth : Run m y d n
+  pub fifth : Run m x e n
+
+-- the same at place i of two lines of n, reflected at their border
+unfoldable pub crossed-along : ℕ → (ℕ → ℤ) → (ℕ → ℤ) → ℕ → ℤ
+crossed-along n x y i =
+    weighted high-join (x (reflect n (pos i -ℤ pos 2))) (y (reflect n (pos i -ℤ pos 1))) (x (reflect n (pos i))) (y (reflect n (pos i +ℤ pos 1))) (x (reflect n (pos i +ℤ pos 2)))
+
+-- the joined parts of a row: along the row, from the three padded lines of parts
+unfoldable pub joined-minus : List ℤ → List ℤ → List ℤ → ℕ → ℤ
+joined-minus parts minus plus k = crossed minus plus 0 1 2 3 4 k -ℤ crossed parts parts 0 1 2 3 4 k
+
+unfoldable pub joined-plus : List ℤ → List ℤ → List ℤ → ℕ → ℤ
+joined-plus parts minus plus k = crossed minus plus 0 1 2 3 4 k +ℤ crossed parts parts 0 1 2 3 4 k
+
+-- ---- 1,024 times a value, less a joined sum, brought back
+unfoldable pub settled : ℤ → ℤ → ℤ → ℤ → ℤ
+settled low high x sum = clamp low high (rounded 1024 (pos 1024 *ℤ x -ℤ sum))

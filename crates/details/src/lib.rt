@@ -1,0 +1,223 @@
+// Inner: the sums of the projection, along lines. No loop over a line reflects or branches, so that each is a loop over vectors.
+ghost use mathlib.Core.Path.{_≡_};
+ghost use Prim.Native.Nat.{_+_, _≤_, _<_};
+ghost use lib.IntN.{natAbs, pos, _+ℤ_, _-ℤ_};
+ghost use lib.ListN.{length};
+ghost use Rattle.integers.specs.Lists.{overwrite};
+ghost use Rattle.filters.specs.Bank.{low-split, high-split, high-join, along};
+ghost use Rattle.lines.specs.Lines.{value, Run, padded};
+ghost use Rattle.details.specs.Details.{Limit, excess as outside, difference-line, Samples, Triple, outer, outer-minus, outer-plus, from-place, outer-part, crossed, Crossing, crossed-along, joined-minus, joined-plus, settled};
+
+// A value less the guide's sample.
+fn difference(x: i32, guide: u16) -> i32
+    requires { ⌜ natAbs x ≤ 1073741824 ⌝ }
+    ensures { λ r. ⌜ r ≡ x -ℤ pos guide ⌝ }
+{
+    x - guide as i32
+}
+
+// A line of n, from `at` on, less the guide's samples, which stand `step` apart: into `out`, from `to` on.
+pub fn difference_line(
+    own: &[i32],
+    at: usize,
+    guide: &[u16],
+    from: usize,
+    step: usize,
+    n: usize,
+    out: &mut [i32],
+    to: usize,
+)
+    requires { ⌜ Run 1073741824 (now own) at n × Samples (now guide) from step n × (to + n ≤ length (now out)) ⌝ }
+    ensures { λ _. ⌜ now (out .exit) ≡ overwrite (now (out .entry)) to n (difference-line (now (own .entry)) at (now (guide .entry)) from step) ⌝ }
+{
+    let mut k = 0;
+    while k < n {
+        out[to + k] = difference(own[at + k], guide[from + k * step]);
+        k += 1;
+    }
+}
+
+// The part of z outside −limit..limit.
+fn excess(limit: i32, z: i32) -> i32
+    requires { ⌜ Limit limit × (natAbs z ≤ 536870912) ⌝ }
+    ensures { λ r. ⌜ r ≡ outside limit z ⌝ }
+{
+    if z < 0 - limit {
+        return z + limit;
+    }
+    if limit < z {
+        return z - limit;
+    }
+    0
+}
+
+// What of the high split filter's value lies outside the limit, at place k along a padded line of n.
+fn outer_high(line: &[i32], limit: i32, n: usize, k: usize) -> i32
+    requires { ⌜ Limit limit × Triple 134217728 (now line) n × (k < n) ⌝ }
+    ensures { λ r. ⌜ r ≡ outer high-split limit (now (line .entry)) k ⌝ }
+{
+    excess(
+        limit,
+        filters::high_split(line[k], line[1 + k], line[2 + k]),
+    )
+}
+
+// And of the low one's.
+fn outer_low(line: &[i32], limit: i32, n: usize, k: usize) -> i32
+    requires { ⌜ Limit limit × Triple 134217728 (now line) n × (k < n) ⌝ }
+    ensures { λ r. ⌜ r ≡ outer low-split limit (now (line .entry)) k ⌝ }
+{
+    excess(limit, filters::low_split(line[k], line[1 + k], line[2 + k]))
+}
+
+// Along a padded line of n that is low along the columns, what of band 2 lies outside the limit.
+fn outer_line(line: &[i32], limit: i32, n: usize, out: &mut [i32], at: usize)
+    requires { ⌜ Limit limit × Triple 134217728 (now line) n × (at + n ≤ length (now out)) ⌝ }
+    ensures { λ _. ⌜ now (out .exit) ≡ overwrite (now (out .entry)) at n (outer high-split limit (now (line .entry))) ⌝ }
+{
+    let mut k = 0;
+    while k < n {
+        out[at + k] = outer_high(line, limit, n, k);
+        k += 1;
+    }
+}
+
+// Along a padded line of n that is high along the columns, what of bands 3 and 4 lies outside: their difference and their sum.
+fn outer_lines(line: &[i32], limit: i32, n: usize, minus: &mut [i32], plus: &mut [i32], at: usize)
+    requires { ⌜ Limit limit × Triple 134217728 (now line) n × (at + n ≤ length (now minus)) × (at + n ≤ length (now plus)) ⌝ }
+    ensures { λ _. ⌜ now (minus .exit) ≡ overwrite (now (minus .entry)) at n (outer-minus limit (now (line .entry))) ⌝ }
+    ensures { λ _. ⌜ now (plus .exit) ≡ overwrite (now (plus .entry)) at n (outer-plus limit (now (line .entry))) ⌝ }
+{
+    let mut k = 0;
+    while k < n {
+        let high = outer_high(line, limit, n, k);
+        let low = outer_low(line, limit, n, k);
+        minus[at + k] = high - low;
+        plus[at + k] = high + low;
+        k += 1;
+    }
+}
+
+// Lines of n, from place 1 of `low` and of `high` on, which are low and high along the columns: what of the details along them lies outside
+// the limit, from place 2 on. The places beside the two lines are scratch.
+pub fn outer_along(
+    low: &mut [i32],
+    high: &mut [i32],
+    limit: i32,
+    n: usize,
+    parts: &mut [i32],
+    minus: &mut [i32],
+    plus: &mut [i32],
+)
+    requires { ⌜ (1 ≤ n) × (n ≤ 2048) × (n + 2 ≤ length (now low)) × (n + 2 ≤ length (now high)) × Run 134217728 (now low) 1 n × Run 134217728 (now high) 1 n ⌝ }
+    requires { ⌜ Limit limit × (2 + n ≤ length (now parts)) × (2 + n ≤ length (now minus)) × (2 + n ≤ length (now plus)) ⌝ }
+    ensures { λ _. ⌜ (now (low .exit) ≡ padded n 1 (now (low .entry))) × (now (high .exit) ≡ padded n 1 (now (high .entry))) ⌝ }
+    ensures { λ _. ⌜ now (parts .exit) ≡ overwrite (now (parts .entry)) 2 n (outer-part high-split limit n (from-place 1 (now (low .entry)))) ⌝ }
+    ensures { λ _. ⌜ now (minus .exit) ≡ overwrite (now (minus .entry)) 2 n (λ k. outer-part high-split limit n (from-place 1 (now (high .entry))) k -ℤ outer-part low-split limit n (from-place 1 (now (high .entry))) k) ⌝ }
+    ensures { λ _. ⌜ now (plus .exit) ≡ overwrite (now (plus .entry)) 2 n (λ k. outer-part high-split limit n (from-place 1 (now (high .entry))) k +ℤ outer-part low-split limit n (from-place 1 (now (high .entry))) k) ⌝ }
+{
+    lines::pad_line(low, n, 1);
+    outer_line(low, limit, n, parts, 2);
+    lines::pad_line(high, n, 1);
+    outer_lines(high, limit, n, minus, plus, 2);
+}
+
+// Five values, of x and of y in turn, through the high join filter.
+fn crossed_at(
+    x: &[i32],
+    y: &[i32],
+    a: usize,
+    b: usize,
+    c: usize,
+    d: usize,
+    e: usize,
+    n: usize,
+    k: usize,
+) -> i32
+    requires { ⌜ Crossing 134217728 (now x) (now y) a b c d e n × (k < n) ⌝ }
+    ensures { λ r. ⌜ r ≡ crossed (now (x .entry)) (now (y .entry)) a b c d e k ⌝ }
+{
+    filters::high_join(x[a + k], y[b + k], x[c + k], y[d + k], x[e + k])
+}
+
+// The joined parts of a row, along three padded lines of parts: their difference and their sum, from `at` on.
+fn join_parts(
+    parts: &[i32],
+    minus: &[i32],
+    plus: &[i32],
+    n: usize,
+    apart: &mut [i32],
+    together: &mut [i32],
+    at: usize,
+)
+    requires { ⌜ Crossing 67108864 (now parts) (now parts) 0 1 2 3 4 n × Crossing 67108864 (now minus) (now plus) 0 1 2 3 4 n ⌝ }
+    requires { ⌜ (at + n ≤ length (now apart)) × (at + n ≤ length (now together)) ⌝ }
+    ensures { λ _. ⌜ now (apart .exit) ≡ overwrite (now (apart .entry)) at n (joined-minus (now (parts .entry)) (now (minus .entry)) (now (plus .entry))) ⌝ }
+    ensures { λ _. ⌜ now (together .exit) ≡ overwrite (now (together .entry)) at n (joined-plus (now (parts .entry)) (now (minus .entry)) (now (plus .entry))) ⌝ }
+{
+    let mut k = 0;
+    while k < n {
+        let p = crossed_at(parts, parts, 0, 1, 2, 3, 4, n, k);
+        let q = crossed_at(minus, plus, 0, 1, 2, 3, 4, n, k);
+        apart[at + k] = q - p;
+        together[at + k] = q + p;
+        k += 1;
+    }
+}
+
+// Lines of n, from place 2 of `parts`, `minus` and `plus` on, joined along them: the difference and the sum of what the two give, from `at`
+// on. The places beside the three lines are scratch.
+pub fn join_along(
+    parts: &mut [i32],
+    minus: &mut [i32],
+    plus: &mut [i32],
+    n: usize,
+    apart: &mut [i32],
+    together: &mut [i32],
+    at: usize,
+)
+    requires { ⌜ (1 ≤ n) × (n ≤ 2048) × (n + 4 ≤ length (now parts)) × (n + 4 ≤ length (now minus)) × (n + 4 ≤ length (now plus)) ⌝ }
+    requires { ⌜ Run 67108864 (now parts) 2 n × Run 67108864 (now minus) 2 n × Run 67108864 (now plus) 2 n × (at + n ≤ length (now apart)) × (at + n ≤ length (now together)) ⌝ }
+    ensures { λ _. ⌜ (now (parts .exit) ≡ padded n 2 (now (parts .entry))) × (now (minus .exit) ≡ padded n 2 (now (minus .entry))) × (now (plus .exit) ≡ padded n 2 (now (plus .entry))) ⌝ }
+    ensures { λ _. ⌜ now (apart .exit) ≡ overwrite (now (apart .entry)) at n (λ k. crossed-along n (from-place 2 (now (minus .entry))) (from-place 2 (now (plus .entry))) k -ℤ along high-join 1 n (from-place 2 (now (parts .entry))) k) ⌝ }
+    ensures { λ _. ⌜ now (together .exit) ≡ overwrite (now (together .entry)) at n (λ k. crossed-along n (from-place 2 (now (minus .entry))) (from-place 2 (now (plus .entry))) k +ℤ along high-join 1 n (from-place 2 (now (parts .entry))) k) ⌝ }
+{
+    lines::pad_line(parts, n, 2);
+    lines::pad_line(minus, n, 2);
+    lines::pad_line(plus, n, 2);
+    join_parts(parts, minus, plus, n, apart, together, at);
+}
+
+// 1,024 times x, less a joined sum, brought back to low..high.
+fn settle(low: i32, high: i32, x: i32, sum: i32) -> i32
+    requires { ⌜ (natAbs x ≤ 131070) × (natAbs sum ≤ 1610612736) ⌝ }
+    ensures { λ r. ⌜ r ≡ settled low high x sum ⌝ }
+{
+    filters::rescale(1024 * x - sum, low, high)
+}
+
+// A line of n, from `at` on, less what is joined from five rows of the joined parts along the columns.
+pub fn settle_line(
+    own: &mut [i32],
+    at: usize,
+    minus: &[i32],
+    plus: &[i32],
+    a: usize,
+    b: usize,
+    c: usize,
+    d: usize,
+    e: usize,
+    n: usize,
+    low: i32,
+    high: i32,
+)
+    requires { ⌜ Run 131070 (now own) at n × Crossing 134217728 (now minus) (now plus) a b c d e n ⌝ }
+    ensures { λ _. ⌜ now (own .exit) ≡ overwrite (now (own .entry)) at n (λ k. settled low high (value (now (own .entry)) (at + k)) (crossed (now (minus .entry)) (now (plus .entry)) a b c d e k)) ⌝ }
+{
+    let mut k = 0;
+    while k < n {
+        let sum = crossed_at(minus, plus, a, b, c, d, e, n, k);
+        own[at + k] = settle(low, high, own[at + k], sum);
+        k += 1;
+    }
+}

@@ -1,0 +1,3 @@
+pub mod Projection
+pub mod Rows
+pub mod Sweep

@@ -1,0 +1,280 @@
+-- The projection row by row: what a row of joined parts is made of and how large it grows, and that five of them give the joined sum of what
+-- the difference's details have outside the limit. Assumes nothing.
+use mathlib.Core.Path.{_≡_, refl, sym, _∙_, ap, subst}
+use mathlib.Core.List.{List, [], _∷_}
+use Prim.Native.Nat.{ℕ, _+_, _*_, _-_, _/_, _%_, _≤_, _<_}
+use native.Mathlib.Nat.{mod-lt, mul-comm, add-mul, mul-le-mul-right, le-trans}
+use native.Mathlib.Omega.{arith}
+use lib.Dec.{T}
+use lib.IntN.{ℤ, pos, natAbs, _+ℤ_, _-ℤ_}
+use lib.ListN.{length}
+use lib.Signed.{nonNeg}
+use Rattle.integers.specs.Lists.{overwrite}
+use Rattle.integers.proofs.Lists.{length-overwrite, overwrite-in, overwrite-after, overwrite-cong}
+use Rattle.integers.proofs.Linear.{linear, number, x₀, x₁, x₂, _⊕_}
+use Rattle.integers.proofs.Bounds.{abs-add, abs-sub}
+use Rattle.border.specs.Border.{reflect}
+use Rattle.border.proofs.Reflection.{reflect-lt}
+use Rattle.turns.proofs.Frames.{row-room, overwrite-row}
+use Rattle.filters.specs.Bank.{Taps, weighted, tap, along, along-rows, along-columns, filtered, split, join, low-split, high-split, low-join, high-join}
+use Rattle.filters.proofs.Ranges.{gain, along-range}
+use Rattle.filters.proofs.Linearity.{along-cong, along-add, filtered-by-rows}
+use Rattle.lines.specs.Lines.{value, Run, three}
+use Rattle.lines.proofs.Lines.{run-wider, run-laid, three-range}
+use Rattle.details.specs.Details.{excess, from-place, outer-part, crossed, Crossing, crossed-along, settled}
+use Rattle.details.proofs.Details.{excess-bound, crossed-joins}
+use Rattle.projection.specs.Fast.{excess-details}
+use Rattle.projection.specs.Planes.{reach, own-plane}
+use Rattle.projection.specs.Rows.{slot, slot-of, low-parts, high-parts, apart-row, together-row, ring-line, RingRows, ring-sum, settled-row, Settleable}
+
+-- ---- a row has room in its slot
+pub slot-room : (n w q : ℕ) → 1 ≤ n → slot n w q + w ≤ n * w
+slot-room n w q some = omega (arith, row-room w n (q % n) (mod-lt q some), mul-comm w n)
+
+-- ---- only what is inside a line counts
+pub along-inside : (t : Taps) (n : ℕ) → 1 ≤ n → (x y : ℕ → ℤ) → ((k : ℕ) → k < n → x k ≡ y k) → (i : ℕ) → along t 1 n x i ≡ along t 1 n y i
+along-inside t n some x y e i = along-cong t 1 n x y (λ j. e (reflect n j) (reflect-lt n some j)) i
+
+pub outer-inside : (t : Taps) (limit : ℤ) (n : ℕ) → 1 ≤ n → (x y : ℕ → ℤ) → ((k : ℕ) → k < n → x k ≡ y k) → (i : ℕ) → outer-part t limit n x i ≡ outer-part t limit n y i
+unfolding outer-part
+outer-inside t limit n some x y e i = ap (excess limit) (along-inside t n some x y e i)
+
+pub crossed-inside : (n : ℕ) → 1 ≤ n → (x x' y y' : ℕ → ℤ) → ((k : ℕ) → k < n → x k ≡ x' k) → ((k : ℕ) → k < n → y k ≡ y' k) → (i : ℕ) → crossed-along n x y i ≡ crossed-along n x' y' i
+unfolding crossed-along
+crossed-inside n some x x' y y' e f i = λ m. weighted high-join (at x x' e (pos i -ℤ pos 2) m) (at y y' f (pos i -ℤ pos 1) m) (at x x' e (pos i) m) (at y y' f (pos i +ℤ pos 1) m) (at x x' e (pos i +ℤ pos 2) m)
+  where
+    at : (u v : ℕ → ℤ) → ((k : ℕ) → k < n → u k ≡ v k) → (j : ℤ) → u (reflect n j) ≡ v (reflect n j)
+    at u v g j = g (reflect n j) (reflect-lt n some j)
+
+-- ---- a row of joined parts, by its two lines
+module _ (limit : ℤ) (w : ℕ) (some : 1 ≤ w) (low low' high high' : ℕ → ℤ) (e : (k : ℕ) → k < w → low k ≡ low' k) (f : (k : ℕ) → k < w → high k ≡ high' k) (c : ℕ) where
+  low-inside : low-parts limit w low c ≡ low-parts limit w low' c
+  unfolding low-parts
+  low-inside = along-inside high-join w some _ _ (λ k i. outer-inside high-split limit w some low low' e k) c
+
+  high-inside : high-parts limit w high c ≡ high-parts limit w high' c
+  unfolding high-parts
+  high-inside = λ m. along-inside low-join w some _ _ (λ k i. outer-inside low-split limit w some high high' f k) c m +ℤ along-inside high-join w some _ _ (λ k i. outer-inside high-split limit w some high high' f k) c m
+
+  pub apart-inside : apart-row limit w low high c ≡ apart-row limit w low' high' c
+  unfolding apart-row
+  apart-inside = λ m. high-inside m -ℤ low-inside m
+
+  pub together-inside : together-row limit w low high c ≡ together-row limit w low' high' c
+  unfolding together-row
+  together-inside = λ m. high-inside m +ℤ low-inside m
+
+-- ---- how large it grows
+module _ (limit : ℤ) (sign : T (nonNeg limit)) (n m : ℕ) (some : 1 ≤ n) where
+  pub outer-part-range : (t : Taps) (x : ℕ → ℤ) → ((k : ℕ) → k < n → natAbs (x k) ≤ m) → (i : ℕ) → natAbs (outer-part t limit n x i) ≤ gain t * m
+  unfolding outer-part
+  outer-part-range t x b i = le-trans (excess-bound limit (along t 1 n x i) sign) (along-range t 1 n m x some b i)
+
+  module _ (low high : ℕ → ℤ) (p : (k : ℕ) → k < n → natAbs (low k) ≤ m) (q : (k : ℕ) → k < n → natAbs (high k) ≤ m) (c : ℕ) where
+    low-range : natAbs (low-parts limit n low c) ≤ 48 * m
+    unfolding low-parts gain high-split high-join
+    low-range = le-trans (along-range high-join 1 n (4 * m) _ some (λ k i. outer-part-range high-split low p k) c) (omega arith)
+
+    high-range : natAbs (high-parts limit n high c) ≤ 96 * m
+    unfolding high-parts gain low-split high-split low-join high-join
+    high-range =
+        sums _ _ _ (abs-add (along low-join 1 n (outer-part low-split limit n high) c) (along high-join 1 n (outer-part high-split limit n high) c))
+        (along-range low-join 1 n (4 * m) _ some (λ k i. outer-part-range low-split high q k) c) (along-range high-join 1 n (4 * m) _ some (λ k i. outer-part-range high-split high q k) c)
+      where
+        sums : (s a b : ℕ) → s ≤ a + b → a ≤ 12 * (4 * m) → b ≤ 12 * (4 * m) → s ≤ 96 * m
+        sums s a b h i j = omega arith
+
+    pub apart-range : natAbs (apart-row limit n low high c) ≤ 144 * m
+    unfolding apart-row
+    apart-range = omega (arith, abs-sub (high-parts limit n high c) (low-parts limit n low c), low-range, high-range)
+
+    pub together-range : natAbs (together-row limit n low high c) ≤ 144 * m
+    unfolding together-row
+    together-range = omega (arith, abs-add (high-parts limit n high c) (low-parts limit n low c), low-range, high-range)
+
+-- ---- five rows of joined parts
+-- band 1 has no parts
+none : (w h r c : ℕ) → filtered low-join low-join 1 w h (λ i j. pos 0) r c ≡ pos 0
+unfolding filtered along-rows along-columns along tap weighted low-join
+none w h r c = refl
+
+module _ (limit : ℤ) (w h : ℕ) (d : ℕ → ℕ → ℤ) where
+  -- the difference's two lines along the columns, row by row
+  abbrev pub low-line : ℕ → ℕ → ℤ
+  low-line = along-columns low-split 1 h d
+
+  abbrev pub high-line : ℕ → ℕ → ℤ
+  high-line = along-columns high-split 1 h d
+
+  abbrev pub apart-plane : ℕ → ℕ → ℤ
+  apart-plane r = apart-row limit w (low-line r) (high-line r)
+
+  abbrev pub together-plane : ℕ → ℕ → ℤ
+  together-plane r = together-row limit w (low-line r) (high-line r)
+
+  -- what of band k lies outside
+  part : Taps → Taps → ℕ → ℕ → ℤ
+  part tr tc r c = excess limit (filtered tr tc 1 w h d r c)
+
+  parts-along : (j tr tc : Taps) (r c : ℕ) → along j 1 w (outer-part tr limit w (along-columns tc 1 h d r)) c ≡ along-rows j 1 w (part tr tc) r c
+  unfolding outer-part along-rows part
+  parts-along j tr tc r c = along-cong j 1 w _ _ (λ i. ap (excess limit) (filtered-by-rows tr tc 1 w h d r (reflect w i))) c
+
+  -- joined along the columns, they are the joined sum of what lies outside
+  pub crossed-parts : (r c : ℕ) → crossed-along h (λ i. apart-plane i c) (λ i. together-plane i c) r ≡ join 1 w h (λ i j. excess-details limit (split 1 w h d i j)) r c
+  unfolding apart-row together-row low-parts high-parts join excess-details split part
+  crossed-parts r c =
+      crossed-joins h (λ i. low-parts limit w (low-line i) c) (λ i. high-parts limit w (high-line i) c) r
+      ∙ (λ m. low m +ℤ high m)
+      ∙ linear (F high-join low-join high-split low-split ∷ F low-join high-join low-split high-split ∷ F high-join high-join high-split high-split ∷ []) (x₀ ⊕ (x₁ ⊕ x₂)) (((number (pos 0) ⊕ x₀) ⊕ x₁) ⊕ x₂) tt
+      ∙ ap (λ z. z +ℤ F high-join low-join high-split low-split +ℤ F low-join high-join low-split high-split +ℤ F high-join high-join high-split high-split) (sym (none w h r c))
+    where
+      F : Taps → Taps → Taps → Taps → ℤ
+      F jr jc tr tc = filtered jr jc 1 w h (part tr tc) r c
+
+      low : along low-join 1 h (λ i. low-parts limit w (low-line i) c) r ≡ F high-join low-join high-split low-split
+      low = unfold low-parts filtered along-columns in along-cong low-join 1 h _ _ (λ i. parts-along high-join high-split low-split (reflect h i) c) r
+
+      high : along high-join 1 h (λ i. high-parts limit w (high-line i) c) r ≡ F low-join high-join low-split high-split +ℤ F high-join high-join high-split high-split
+      high = unfold high-parts filtered along-columns in
+          along-cong high-join 1 h _ _ (λ i. λ m. parts-along low-join low-split high-split (reflect h i) c m +ℤ parts-along high-join high-split high-split (reflect h i) c m) r
+          ∙ along-add high-join 1 h (λ i. along-rows low-join 1 w (part low-split high-split) i c) (λ i. along-rows high-join 1 w (part high-split high-split) i c) r
+
+-- ---- a row of joined parts, as the calls leave it
+-- what was laid down is a run, where its values are small
+pub laid-run : (m : ℕ) (l : List ℤ) (o n : ℕ) (f : ℕ → ℤ) {laid : List ℤ} → laid ≡ overwrite l o n f → o + n ≤ length l → ((k : ℕ) → k < n → natAbs (f k) ≤ m) → Run m laid o n
+laid-run m l o n f e h b = subst (λ (x : List ℤ). Run m x o n) (sym e) (run-laid m l o n f h b)
+
+-- and holds them
+pub laid-at : (l : List ℤ) (o n : ℕ) (f : ℕ → ℤ) {laid : List ℤ} → laid ≡ overwrite l o n f → o + n ≤ length l → (k : ℕ) → k < n → value laid (o + k) ≡ f k
+laid-at l o n f e h k i = ap (λ (x : List ℤ). value x (o + k)) e ∙ overwrite-in l o n f k (pos 0) h i
+
+pub four : (gain low-split ≤ 4) × (gain high-split ≤ 4)
+unfolding gain low-split high-split
+four = (omega arith, omega arith)
+
+module _ (limit : ℤ) (sign : T (nonNeg limit)) (w h r : ℕ) (some : 1 ≤ w) (ring : List ℤ) (rows : RingRows reach ring w h r) where
+  -- the two lines along the columns
+  abbrev Line : Taps → ℕ → ℤ
+  Line t = ring-line t ring w h r
+
+  pub line-range : (t : Taps) → gain t ≤ 4 → (k : ℕ) → k < w → natAbs (Line t k) ≤ 524280
+  unfolding ring-line
+  line-range t g k i = le-trans (three-range t (rows .above) (rows .here) (rows .below) k i) (omega (arith, mul-le-mul-right 131070 g))
+
+  pub line-run : (t : Taps) → gain t ≤ 4 → (l : List ℤ) {line : List ℤ} → 1 + w ≤ length l → line ≡ overwrite l 1 w (Line t) → Run 134217728 line 1 w
+  line-run t g l room e = laid-run 134217728 l 1 w (Line t) e room (λ k i. le-trans (line-range t g k i) (omega arith))
+
+  -- what of the details along them lies outside
+  module _ (x y : List ℤ) (room-x : 1 + w ≤ length x) (room-y : 1 + w ≤ length y) {low high : List ℤ} (low-is : low ≡ overwrite x 1 w (Line low-split)) (high-is : high ≡ overwrite y 1 w (Line high-split)) where
+    e : (k : ℕ) → k < w → from-place 1 low k ≡ Line low-split k
+    e = laid-at x 1 w (Line low-split) low-is room-x
+
+    f : (k : ℕ) → k < w → from-place 1 high k ≡ Line high-split k
+    f = laid-at y 1 w (Line high-split) high-is room-y
+
+    outer-small : (t s : Taps) → gain t ≤ 4 → gain s ≤ 4 → (line : List ℤ) → ((k : ℕ) → k < w → from-place 1 line k ≡ Line s k) → (k : ℕ) → natAbs (outer-part t limit w (from-place 1 line) k) ≤ 2097120
+    outer-small t s g g' line at k =
+        le-trans (outer-part-range limit sign w 524280 some t (from-place 1 line) (λ i b. subst (λ (z : ℤ). natAbs z ≤ 524280) (sym (at i b)) (line-range s g' i b)) k) (omega (arith, mul-le-mul-right 524280 g))
+
+    pub parts-run : (l : List ℤ) {parts : List ℤ} → 2 + w ≤ length l → parts ≡ overwrite l 2 w (outer-part high-split limit w (from-place 1 low)) → Run 67108864 parts 2 w
+    parts-run l room p = laid-run 67108864 l 2 w _ p room (λ k i. le-trans (outer-small high-split low-split (four .1) (four .0) low e k) (omega arith))
+
+    pub minus-run : (l : List ℤ) {minus : List ℤ} → 2 + w ≤ length l → minus ≡ overwrite l 2 w (λ k. outer-part high-split limit w (from-place 1 high) k -ℤ outer-part low-split limit w (from-place 1 high) k) → Run 67108864 minus 2 w
+    minus-run l room p =
+        laid-run 67108864 l 2 w _ p room (λ k i. omega (arith, abs-sub (outer-part high-split limit w (from-place 1 high) k) (outer-part low-split limit w (from-place 1 high) k), outer-small high-split high-split (four .1) (four .1) high f k, outer-small low-split high-split (four .0) (four .1) high f k))
+
+    pub plus-run : (l : List ℤ) {plus : List ℤ} → 2 + w ≤ length l → plus ≡ overwrite l 2 w (λ k. outer-part high-split limit w (from-place 1 high) k +ℤ outer-part low-split limit w (from-place 1 high) k) → Run 67108864 plus 2 w
+    plus-run l room p =
+        laid-run 67108864 l 2 w _ p room (λ k i. omega (arith, abs-add (outer-part high-split limit w (from-place 1 high) k) (outer-part low-split limit w (from-place 1 high) k), outer-small high-split high-split (four .1) (four .1) high f k, outer-small low-split high-split (four .0) (four .1) high f k))
+
+    -- joined along the row
+    module _ (l₁ l₂ l₃ : List ℤ) {parts minus plus : List ℤ} (room₁ : 2 + w ≤ length l₁) (room₂ : 2 + w ≤ length l₂) (room₃ : 2 + w ≤ length l₃)
+        (p : parts ≡ overwrite l₁ 2 w (outer-part high-split limit w (from-place 1 low)))
+        (q : minus ≡ overwrite l₂ 2 w (λ k. outer-part high-split limit w (from-place 1 high) k -ℤ outer-part low-split limit w (from-place 1 high) k))
+        (u : plus ≡ overwrite l₃ 2 w (λ k. outer-part high-split limit w (from-place 1 high) k +ℤ outer-part low-split limit w (from-place 1 high) k)) where
+      low-joined : (c : ℕ) → along high-join 1 w (from-place 2 parts) c ≡ low-parts limit w (Line low-split) c
+      unfolding low-parts
+      low-joined c = along-inside high-join w some _ _ (λ k i. laid-at l₁ 2 w _ p room₁ k i ∙ outer-inside high-split limit w some (from-place 1 low) (Line low-split) e k) c
+
+      high-joined : (c : ℕ) → crossed-along w (from-place 2 minus) (from-place 2 plus) c ≡ high-parts limit w (Line high-split) c
+      unfolding high-parts
+      high-joined c =
+          crossed-inside w some (from-place 2 minus) (λ k. outer-part high-split limit w (Line high-split) k -ℤ outer-part low-split limit w (Line high-split) k) (from-place 2 plus) (λ k. outer-part high-split limit w (Line high-split) k +ℤ outer-part low-split limit w (Line high-split) k)
+          (λ k i. laid-at l₂ 2 w _ q room₂ k i ∙ (λ m. both high-split k m -ℤ both low-split k m)) (λ k i. laid-at l₃ 2 w _ u room₃ k i ∙ (λ m. both high-split k m +ℤ both low-split k m)) c
+          ∙ crossed-joins w (outer-part low-split limit w (Line high-split)) (outer-part high-split limit w (Line high-split)) c
+        where
+          both : (t : Taps) (k : ℕ) → outer-part t limit w (from-place 1 high) k ≡ outer-part t limit w (Line high-split) k
+          both t k = outer-inside t limit w some (from-place 1 high) (Line high-split) f k
+
+      pub apart-laid : (l : List ℤ) (at : ℕ) {apart : List ℤ} → apart ≡ overwrite l at w (λ k. crossed-along w (from-place 2 minus) (from-place 2 plus) k -ℤ along high-join 1 w (from-place 2 parts) k)
+          → apart ≡ overwrite l at w (apart-row limit w (Line low-split) (Line high-split))
+      unfolding apart-row
+      apart-laid l at z = z ∙ overwrite-cong l at w _ _ (λ k i. λ m. high-joined k m -ℤ low-joined k m)
+
+      pub together-laid : (l : List ℤ) (at : ℕ) {together : List ℤ} → together ≡ overwrite l at w (λ k. crossed-along w (from-place 2 minus) (from-place 2 plus) k +ℤ along high-join 1 w (from-place 2 parts) k)
+          → together ≡ overwrite l at w (together-row limit w (Line low-split) (Line high-split))
+      unfolding together-row
+      together-laid l at z = z ∙ overwrite-cong l at w _ _ (λ k i. λ m. high-joined k m +ℤ low-joined k m)
+
+-- ---- from the slots that code found
+module _ (w h r : ℕ) (ring : List ℤ) {a b : ℕ} (is-a : a ≡ slot-of 3 w h (pos r -ℤ pos 1)) (is-b : b ≡ slot-of 3 w h (pos r +ℤ pos 1)) where
+  pub ring-runs : RingRows reach ring w h r → Run 134217728 ring a w × Run 134217728 ring (slot 3 w r) w × Run 134217728 ring b w
+  ring-runs rows = (at is-a (rows .above), at refl (rows .here), at is-b (rows .below))
+    where
+      at : {o p : ℕ} → o ≡ p → Run reach ring p w → Run 134217728 ring o w
+      at {o} {p} q run = subst (λ (i : ℕ). Run 134217728 ring i w) (sym q) (run-wider (omega arith) run)
+
+  pub line-laid : (t : Taps) (l : List ℤ) {line : List ℤ} → line ≡ overwrite l 1 w (three t ring a (slot 3 w r) b) → line ≡ overwrite l 1 w (ring-line t ring w h r)
+  unfolding ring-line
+  line-laid t l q = q ∙ (λ m. overwrite l 1 w (three t ring (is-a m) (slot 3 w r) (is-b m)))
+
+-- ---- rows that are settled one after another
+module _ (low high : ℤ) (own : List ℤ) (at : ℕ) (apart together : List ℤ) (w h f n : ℕ) (s : Settleable own at apart together w h f n) where
+  -- the rows below r, from row f on
+  abbrev pub settled-to : ℕ → List ℤ
+  settled-to r = overwrite own (at + f * w) ((r - f) * w) (λ k. settled-row low high own at apart together w h (f + k / w) (k % w))
+
+  module _ (r : ℕ) (from : f ≤ r) (to : r < n) {m : List ℤ} (is : m ≡ settled-to r) where
+    -- they end where row r begins
+    before-row : at + f * w + (r - f) * w ≡ at + r * w
+    before-row = omega (arith, rows)
+      where
+        rows : f * w + (r - f) * w ≡ r * w
+        rows = sym (add-mul f (r - f) w) ∙ ap (λ (i : ℕ). i * w) whole
+          where
+            whole : f + (r - f) ≡ r
+            whole = omega arith
+
+    room : at + r * w + w ≤ length own
+    room = s .rows r from to .inside
+
+    untouched : (k : ℕ) → value m (at + r * w + k) ≡ value own (at + r * w + k)
+    untouched k = ap (λ (x : List ℤ). value x (at + r * w + k)) is ∙ overwrite-after own (at + f * w) ((r - f) * w) _ (at + r * w + k) (pos 0) (omega (arith, before-row, room)) (omega (arith, before-row))
+
+    long : length m ≡ length own
+    long = ap length is ∙ length-overwrite own (at + f * w) ((r - f) * w) _ (omega (arith, before-row, room))
+
+    pub row-to-settle : Run 131070 m (at + r * w) w
+    row-to-settle = record { inside = omega (arith, long, room); small = λ k i. subst (λ (z : ℤ). natAbs z ≤ 131070) (sym (untouched k)) (s .rows r from to .small k i) }
+
+    module _ {a b d e : ℕ} (is-a : a ≡ slot-of 5 w h (pos r -ℤ pos 2)) (is-b : b ≡ slot-of 5 w h (pos r -ℤ pos 1)) (is-d : d ≡ slot-of 5 w h (pos r +ℤ pos 1)) (is-e : e ≡ slot-of 5 w h (pos r +ℤ pos 2)) where
+      pub rings-to-settle : Crossing 134217728 apart together a b (slot 5 w r) d e w
+      rings-to-settle = subst (λ (i : ℕ × ℕ × ℕ × ℕ). Crossing 134217728 apart together (i .0) (i .1) (slot 5 w r) (i .2) (i .3) w) (sym (λ j. (is-a j, is-b j, is-d j, is-e j))) (s .rings r from to)
+
+      pub row-settled : {out : List ℤ} → out ≡ overwrite m (at + r * w) w (λ k. settled low high (value m (at + r * w + k)) (crossed apart together a b (slot 5 w r) d e k)) → out ≡ settled-to (r + 1)
+      row-settled {out} q =
+          overwrite-row own (at + f * w) w (r - f) (λ i c. settled-row low high own at apart together w h (f + i) c) _ (at + r * w) q (sym before-row) (omega (arith, before-row, room)) is same
+          ∙ ap (λ (i : ℕ). overwrite own (at + f * w) (i * w) (λ k. settled-row low high own at apart together w h (f + k / w) (k % w))) next
+        where
+          next : r - f + 1 ≡ r + 1 - f
+          next = omega arith
+
+          here : r ≡ f + (r - f)
+          here = omega arith
+
+          same : (j : ℕ) → j < w → settled low high (value m (at + r * w + j)) (crossed apart together a b (slot 5 w r) d e j) ≡ settled-row low high own at apart together w h (f + (r - f)) j
+          same j i = (λ k. settled low high ((untouched j ∙ ap (value own) place) k) (crossed apart together (is-a k) (is-b k) (slot 5 w r) (is-d k) (is-e k) j)) ∙ unfold settled-row own-plane ring-sum in ap (λ (i : ℕ). settled-row low high own at apart together w h i j) here
+            where
+              place : at + r * w + j ≡ at + (r * w + j)
+              place = omega arith

@@ -1,0 +1,364 @@
+-- The sweep: what the rings hold, and how the plane is settled row after row. Assumes nothing.
+use mathlib.Core.Path.{_≡_, refl, sym, _∙_, ap, subst}
+use mathlib.Core.List.{List}
+use Prim.Native.Nat.{ℕ, _+_, _*_, _-_, _/_, _%_, _≤_, _<_, min}
+use native.Mathlib.Decide.{decLt}
+use native.Mathlib.Nat.{mod-lt, mul-comm, add-mul, suc-mul, zero-mul, mul-le-mul-right, div-add-mod', div-lt-iff-lt-mul, le-trans}
+use native.Mathlib.Omega.{arith}
+use lib.Arith.{digits-div, digits-mod}
+use lib.Dec.{T}
+use lib.IntN.{ℤ, pos, natAbs, _+ℤ_, _-ℤ_, _*ℤ_}
+use lib.ListN.{length, getD}
+use lib.Signed.{nonNeg}
+use Rattle.integers.specs.Numbers.{rounded, clamp}
+use Rattle.integers.specs.Lists.{overwrite}
+use Rattle.integers.proofs.Lists.{length-overwrite, overwrite-in, overwrite-after, overwrite-cong, overwrite-append, overwrite-none}
+use Rattle.border.specs.Border.{reflect}
+use Rattle.border.proofs.Reflection.{reflect-lt, reflect-inside, reflect-before, reflect-after}
+use Rattle.turns.proofs.Frames.{row-room, place-inside, row-inside, column-inside}
+use Rattle.filters.specs.Bank.{Taps, weighted, tap, along, along-columns, low-split, high-split, high-join}
+use Rattle.filters.proofs.Taps.{weighted-three}
+use Rattle.filters.proofs.Ranges.{gain, along-range}
+use Rattle.lines.specs.Lines.{value, Run, three}
+use Rattle.lines.proofs.Lines.{outside}
+use Rattle.details.specs.Details.{difference-line, guide-value, Samples, crossed, crossed-along, settled}
+use Rattle.projection.specs.Projection.{projected}
+use Rattle.projection.specs.Fast.{difference}
+use Rattle.projection.specs.Planes.{own-plane, guide-plane, reach, Projectable}
+use Rattle.projection.specs.Rows.{slot, apart-row, together-row, ring-line, RingRows, ring-sum, settled-row, Settleable}
+use Rattle.projection.proofs.Projection.{held-sum-fast}
+use Rattle.projection.proofs.Rows.{slot-room, four, low-line, high-line, apart-plane, together-plane, apart-range, together-range, apart-inside, together-inside, crossed-parts}
+
+-- ---- rings
+-- a ring of n slots holds plane f's rows from lo on and below hi
+pub record Ring (n w : ℕ) (l : List ℤ) (f : ℕ → ℕ → ℤ) (lo hi : ℕ) : Type 0 where
+  pub holds : (q c : ℕ) → lo ≤ q → q < hi → c < w → value l (slot n w q + c) ≡ f q c
+
+-- fewer of its rows
+pub ring-part : {n w : ℕ} {l : List ℤ} {f : ℕ → ℕ → ℤ} {lo hi lo' hi' : ℕ} → lo ≤ lo' → hi' ≤ hi → Ring n w l f lo hi → Ring n w l f lo' hi'
+ring-part a b r = record { holds = λ q c h i. r .holds q c (omega arith) (omega arith) }
+
+-- two rows less than n apart have different slots
+mod-apart : (n p q : ℕ) → p < q → q < p + n → p % n ≡ q % n → ⊥
+mod-apart n p q h i e = go (decLt (p / n) (q / n))
+  where
+    go : Dec (p / n < q / n) → ⊥
+    go (yes b) = omega (arith, div-add-mod' p n, div-add-mod' q n, mul-le-mul-right n b, suc-mul (p / n) n)
+    go (no b) = let c : q / n ≤ p / n = omega arith in omega (arith, div-add-mod' p n, div-add-mod' q n, mul-le-mul-right n c)
+
+slots-apart : (n w p q c : ℕ) → (p % n ≡ q % n → ⊥) → c < w → slot n w q ≤ slot n w p + c → slot n w q + w ≤ slot n w p + c
+slots-apart n w p q c e h i = go (decLt (p % n) (q % n))
+  where
+    go : Dec (p % n < q % n) → slot n w q + w ≤ slot n w p + c
+    go (yes b) = absurd (omega (arith, mul-le-mul-right w b, suc-mul (p % n) w))
+    go (no b) = let d : q % n < p % n = omega arith in omega (arith, mul-le-mul-right w d, suc-mul (q % n) w)
+
+-- one row laid down
+pub ring-laid : (n w : ℕ) → 1 ≤ n → (l : List ℤ) → n * w ≤ length l → (f : ℕ → ℕ → ℤ) (lo hi : ℕ) → Ring n w l f lo hi
+    → (q : ℕ) (g : ℕ → ℤ) {l' : List ℤ} → l' ≡ overwrite l (slot n w q) w g → ((c : ℕ) → c < w → g c ≡ f q c)
+    → (lo' hi' : ℕ) → hi' ≤ lo' + n → lo' ≤ q → q < hi' → ((p : ℕ) → lo' ≤ p → p < hi' → (p ≡ q → ⊥) → (lo ≤ p) × (p < hi)) → Ring n w l' f lo' hi'
+ring-laid n w some l room f lo hi r q g {l'} e at lo' hi' near from to old = record { holds = holds }
+  where
+    fit : slot n w q + w ≤ length l
+    fit = omega (arith, slot-room n w q some)
+
+    holds : (p c : ℕ) → lo' ≤ p → p < hi' → c < w → value l' (slot n w p + c) ≡ f p c
+    holds p c h i j = ap (λ (x : List ℤ). value x (slot n w p + c)) e ∙ go (decLt p q) (decLt q p)
+      where
+        -- another row stands as it did
+        other : (p ≡ q → ⊥) → (p % n ≡ q % n → ⊥) → value (overwrite l (slot n w q) w g) (slot n w p + c) ≡ f p c
+        other d m = let o = old p h i d in outside l (slot n w q) w g (slot n w p + c) fit (slots-apart n w p q c m j) ∙ r .holds p c (o .0) (o .1) j
+
+        go : Dec (p < q) → Dec (q < p) → value (overwrite l (slot n w q) w g) (slot n w p + c) ≡ f p c
+        go (yes b) d = other (λ m. omega arith) (mod-apart n p q b (omega arith))
+        go (no b) (yes d) = other (λ m. omega arith) (λ m. mod-apart n q p d (omega arith) (sym m))
+        go (no b) (no d) = subst (λ (s : ℕ). value (overwrite l (slot n w q) w g) (slot n w s + c) ≡ f s c) (sym same) (overwrite-in l (slot n w q) w g c (pos 0) fit j ∙ at c j)
+          where
+            same : p ≡ q
+            same = omega arith
+
+-- ---- the planes of a projection
+module _ (limit low high : ℤ) (own : List ℤ) (at : ℕ) (guide : List ℕ) (from down across w h : ℕ) where
+  -- the differences, the joined parts, and what they settle
+  abbrev D : ℕ → ℕ → ℤ
+  D = difference (own-plane own at w) (guide-plane guide from down across)
+
+  abbrev A : ℕ → ℕ → ℤ
+  A = apart-plane limit w h D
+
+  abbrev B : ℕ → ℕ → ℤ
+  B = together-plane limit w h D
+
+  unfoldable pub settled-plane : ℕ → ℕ → ℤ
+  settled-plane r c = settled low high (own-plane own at w r c) (crossed-along h (λ i. A i c) (λ i. B i c) r)
+
+  -- n rows of it, laid down in the list
+  abbrev pub with-rows : ℕ → List ℤ
+  with-rows n = overwrite own at (n * w) (λ k. settled-plane (k / w) (k % w))
+
+  -- When r rows of parts are joined: all but the last two rows of the plane are settled, and the rings hold the rows that are needed still.
+  pub record Swept (now ring apart together : List ℤ) (r : ℕ) : Type 0 where
+    pub plane : now ≡ with-rows (r - 2)
+    pub differences : Ring 3 w ring D (r - 1) (min (r + 1) h)
+    pub aparts : Ring 5 w apart A (r - 4) r
+    pub togethers : Ring 5 w together B (r - 4) r
+
+  module _ (p : Projectable own at guide from down across w h) where
+    area : (r : ℕ) → r < h → at + (r * w + w) ≤ length own
+    area r i = omega (arith, p .inside, row-room w h r i)
+
+    rows-area : (n : ℕ) → n ≤ h → at + n * w ≤ length own
+    rows-area n i = omega (arith, p .inside, mul-le-mul-right w i, mul-comm w h)
+
+    -- ---- a row that is not settled yet is as it was
+    module _ {now : List ℤ} {n : ℕ} (le : n ≤ h) (is : now ≡ with-rows n) where
+      pub long : length now ≡ length own
+      long = ap length is ∙ length-overwrite own at (n * w) _ (rows-area n le)
+
+      untouched : (r c : ℕ) → n ≤ r → r < h → value now (at + r * w + c) ≡ value own (at + (r * w + c))
+      untouched r c i j =
+          ap (λ (x : List ℤ). value x (at + r * w + c)) is ∙ overwrite-after own at (n * w) _ (at + r * w + c) (pos 0) (rows-area n le) (omega (arith, mul-le-mul-right w i))
+          ∙ ap (value own) place
+        where
+          place : at + r * w + c ≡ at + (r * w + c)
+          place = omega arith
+
+      pub own-row : (r : ℕ) → n ≤ r → r < h → Run reach now (at + r * w) w
+      own-row r i j = record {
+        inside = omega (arith, long, area r j);
+        small = λ c k. subst (λ (z : ℤ). natAbs z ≤ reach) (sym (untouched r c i j)) (p .small (r * w + c) (place-inside j k));
+      }
+
+      pub guide-row : (r : ℕ) → r < h → Samples guide (from + r * down) across w
+      guide-row r j = record { inside = λ c k. p .guide-inside r c j k }
+
+      -- so its differences are the plane's
+      pub difference-at : (r : ℕ) → n ≤ r → r < h → (c : ℕ) → c < w → difference-line now (at + r * w) guide (from + r * down) across c ≡ D r c
+      unfolding difference-line guide-value difference own-plane guide-plane
+      difference-at r i j c k = ap (λ z. z -ℤ pos (getD guide (from + r * down + c * across) 0)) (untouched r c i j)
+
+    -- ---- how large the rows are
+    difference-small : (r c : ℕ) → r < h → c < w → natAbs (D r c) ≤ reach
+    unfolding difference
+    difference-small r c i j = p .near r c i j
+
+    line-small : (t : Taps) → gain t ≤ 4 → (r c : ℕ) → c < w → natAbs (along-columns t 1 h D r c) ≤ 524280
+    unfolding along-columns
+    line-small t g r c j = le-trans (along-range t 1 h reach (λ i. D i c) (p .height-from) (λ i k. difference-small i c k j) r) (omega (arith, mul-le-mul-right 131070 g))
+
+    module _ (sign : T (nonNeg limit)) where
+      apart-small : (r c : ℕ) → natAbs (A r c) ≤ 75496320
+      apart-small r c = apart-range limit sign w 524280 (p .width-from) (low-line limit w h D r) (high-line limit w h D r) (λ k j. line-small low-split (four .0) r k j) (λ k j. line-small high-split (four .1) r k j) c
+
+      together-small : (r c : ℕ) → natAbs (B r c) ≤ 75496320
+      together-small r c = together-range limit sign w 524280 (p .width-from) (low-line limit w h D r) (high-line limit w h D r) (λ k j. line-small low-split (four .0) r k j) (λ k j. line-small high-split (four .1) r k j) c
+
+      -- ---- the ring of differences
+      whole : own ≡ with-rows (0 - 2)
+      whole = overwrite-none own at _ ∙ ap (λ (n : ℕ). overwrite own at n (λ k. settled-plane (k / w) (k % w))) (sym (zero-mul w))
+
+      pub first-rows : Run reach own (at + 0 * w) w × Samples guide (from + 0 * down) across w
+      first-rows = (own-row (omega arith) whole 0 (omega arith) (p .height-from), guide-row (omega arith) whole 0 (p .height-from))
+
+      -- with row 0
+      pub start : (ring apart together : List ℤ) → 3 * w ≤ length ring → {laid : List ℤ} → laid ≡ overwrite ring (slot 3 w 0) w (difference-line own (at + 0 * w) guide (from + 0 * down) across) → Swept own laid apart together 0
+      start ring apart together room e = record {
+        plane = whole;
+        differences = ring-laid 3 w (omega arith) ring room D 0 0 (record { holds = λ q c i j. absurd (omega arith) }) 0 _ e (λ c k. difference-at (omega arith) whole 0 (omega arith) (p .height-from) c k) 0 (min 1 h) (omega arith) (omega arith) (omega (arith, p .height-from)) (λ q i j d. absurd (d (omega arith)));
+        aparts = record { holds = λ q c i j. absurd (omega arith) };
+        togethers = record { holds = λ q c i j. absurd (omega arith) };
+      }
+
+      module _ {now ring apart together : List ℤ} {r : ℕ} (s : Swept now ring apart together r) (i : r < h) where
+        -- the row after r, or the one that it means
+        abbrev next : ℕ
+        next = reflect h (pos (r + 1))
+
+        next-near : (r ≤ next + 1) × (next ≤ r + 1) × (next < h)
+        next-near = let q = reflect-after h r 1 i in (q .0, q .1, reflect-lt h (p .height-from) (pos (r + 1)))
+
+        -- code's number x of that row
+        module _ {x : ℕ} (is-x : x ≡ next) where
+          pub next-rows : Run reach now (at + x * w) w × Samples guide (from + x * down) across w
+          next-rows =
+              subst (λ (q : ℕ). Run reach now (at + q * w) w × Samples guide (from + q * down) across w) (sym is-x)
+              (own-row (omega arith) (s .plane) next (omega (arith, next-near .0)) (next-near .2), guide-row (omega arith) (s .plane) next (next-near .2))
+
+        module _ (room : 3 * w ≤ length ring) {x : ℕ} (is-x : x ≡ next) {ring' : List ℤ} (laid : ring' ≡ overwrite ring (slot 3 w x) w (difference-line now (at + x * w) guide (from + x * down) across)) where
+          e : ring' ≡ overwrite ring (slot 3 w next) w (difference-line now (at + next * w) guide (from + next * down) across)
+          e = laid ∙ (λ j. overwrite ring (slot 3 w (is-x j)) w (difference-line now (at + is-x j * w) guide (from + is-x j * down) across))
+
+          next-ring : Ring 3 w ring' D (r - 1) (min (r + 2) h)
+          next-ring =
+              ring-laid 3 w (omega arith) ring room D (r - 1) (min (r + 1) h) (s .differences) next _ e (difference-at (omega arith) (s .plane) next (omega (arith, next-near .0)) (next-near .2)) (r - 1) (min (r + 2) h)
+              (omega arith) (omega (arith, next-near .0)) (omega (arith, next-near .1, next-near .2)) old
+            where
+              old : (q : ℕ) → r - 1 ≤ q → q < min (r + 2) h → (q ≡ next → ⊥) → (r - 1 ≤ q) × (q < min (r + 1) h)
+              old q j k d = (j, go (decLt q (r + 1)))
+                where
+                  go : Dec (q < r + 1) → q < min (r + 1) h
+                  go (yes b) = omega arith
+                  go (no b) = absurd (d (sym (reflect-inside h (r + 1) (omega arith) ∙ omega arith)))
+
+          -- a row near r
+          near-row : (q : ℕ) → r ≤ q + 1 → q ≤ r + 1 → q < h → (c : ℕ) → c < w → value ring' (slot 3 w q + c) ≡ D q c
+          near-row q j k b c m = next-ring .holds q c (omega arith) (omega arith) m
+
+          long-ring : length ring' ≡ length ring
+          long-ring = ap length e ∙ length-overwrite ring (slot 3 w next) w _ (omega (arith, slot-room 3 w next (omega arith)))
+
+          near-run : (q : ℕ) → r ≤ q + 1 → q ≤ r + 1 → q < h → Run reach ring' (slot 3 w q) w
+          near-run q j k b = record {
+            inside = omega (arith, long-ring, slot-room 3 w q (omega arith));
+            small = λ c m. subst (λ (z : ℤ). natAbs z ≤ reach) (sym (near-row q j k b c m)) (difference-small q c b m);
+          }
+
+          abbrev before : ℕ
+          before = reflect h (pos r -ℤ pos 1)
+
+          before-near : (r ≤ before + 1) × (before ≤ r + 1) × (before < h)
+          before-near = let q = reflect-before h r 1 i in (q .0, q .1, reflect-lt h (p .height-from) (pos r -ℤ pos 1))
+
+          pub ring-rows : RingRows reach ring' w h r
+          ring-rows = record {
+            above = near-run before (before-near .0) (before-near .1) (before-near .2);
+            here = near-run r (omega arith) (omega arith) i;
+            below = near-run next (next-near .0) (next-near .1) (next-near .2);
+          }
+
+          -- ---- the rings of joined parts, with row r
+          -- the lines along the columns
+          line-is : (t : Taps) → t .far ≡ pos 0 → (c : ℕ) → c < w → ring-line t ring' w h r c ≡ along-columns t 1 h D r c
+          unfolding ring-line three along-columns along tap
+          line-is t z c m =
+              (λ j. weighted t (pos 0) (near-row before (before-near .0) (before-near .1) (before-near .2) c m j) ((near-row r (omega arith) (omega arith) i c m ∙ ap (λ (q : ℕ). D q c) (sym (reflect-inside h r i))) j) (near-row next (next-near .0) (next-near .1) (next-near .2) c m j) (pos 0))
+              ∙ weighted-three t z _ _ _ _ _
+
+          apart-is : (c : ℕ) → c < w → apart-row limit w (ring-line low-split ring' w h r) (ring-line high-split ring' w h r) c ≡ A r c
+          apart-is c m = apart-inside limit w (p .width-from) _ _ _ _ (line-is low-split (unfold low-split in refl)) (line-is high-split (unfold high-split in refl)) c
+
+          together-is : (c : ℕ) → c < w → together-row limit w (ring-line low-split ring' w h r) (ring-line high-split ring' w h r) c ≡ B r c
+          together-is c m = together-inside limit w (p .width-from) _ _ _ _ (line-is low-split (unfold low-split in refl)) (line-is high-split (unfold high-split in refl)) c
+
+          parts-ring : (f : ℕ → ℕ → ℤ) (g : ℕ → ℤ) → ((c : ℕ) → c < w → g c ≡ f r c) → (l : List ℤ) → 5 * w ≤ length l → Ring 5 w l f (r - 4) r → {l' : List ℤ} → l' ≡ overwrite l (slot 5 w r) w g → Ring 5 w l' f (r - 4) (r + 1)
+          parts-ring f g is l fit old laid = ring-laid 5 w (omega arith) l fit f (r - 4) r old r g laid is (r - 4) (r + 1) (omega arith) (omega arith) (omega arith) (λ q j k d. (j, omega arith))
+
+          module _ (room-a : 5 * w ≤ length apart) (room-b : 5 * w ≤ length together) {apart' together' : List ℤ}
+              (is-a : apart' ≡ overwrite apart (slot 5 w r) w (apart-row limit w (ring-line low-split ring' w h r) (ring-line high-split ring' w h r)))
+              (is-b : together' ≡ overwrite together (slot 5 w r) w (together-row limit w (ring-line low-split ring' w h r) (ring-line high-split ring' w h r))) where
+            pub apart-ring : Ring 5 w apart' A (r - 4) (r + 1)
+            apart-ring = parts-ring A _ apart-is apart room-a (s .aparts) is-a
+
+            pub together-ring : Ring 5 w together' B (r - 4) (r + 1)
+            together-ring = parts-ring B _ together-is together room-b (s .togethers) is-b
+
+            pub swept-next : {out : List ℤ} {n : ℕ} → n ≡ r + 1 - 2 → out ≡ with-rows n → Swept out ring' apart' together' (r + 1)
+            swept-next e q = record {
+              plane = q ∙ ap with-rows e;
+              differences = ring-part (omega arith) (omega arith) next-ring;
+              aparts = ring-part (omega arith) (omega arith) apart-ring;
+              togethers = ring-part (omega arith) (omega arith) together-ring;
+            }
+
+      -- ---- rows that are settled from the rings
+      module _ {now apart together : List ℤ} {lo hi f n : ℕ} (room-a : 5 * w ≤ length apart) (room-b : 5 * w ≤ length together) (aparts : Ring 5 w apart A lo hi) (togethers : Ring 5 w together B lo hi)
+          (le : f ≤ n) (to : n ≤ h) (is : now ≡ with-rows f) (inside : (q : ℕ) → f ≤ q → q < n → (lo ≤ q - 2) × (min (q + 3) h ≤ hi)) where
+        -- the rows that a row needs
+        module _ (r : ℕ) (i : f ≤ r) (j : r < n) where
+          within : (q : ℕ) → r ≤ q + 2 → q ≤ r + 2 → q < h → (lo ≤ q) × (q < hi)
+          within q a b k = (omega (arith, inside r i j .0), omega (arith, inside r i j .1))
+
+          back-row : (k : ℕ) → k ≤ 2 → let q = reflect h (pos r -ℤ pos k) in (lo ≤ q) × (q < hi)
+          back-row k a = let q = reflect-before h r k (omega arith) in within (reflect h (pos r -ℤ pos k)) (omega (arith, q .0)) (omega (arith, q .1)) (reflect-lt h (p .height-from) (pos r -ℤ pos k))
+
+          ahead-row : (k : ℕ) → k ≤ 2 → let q = reflect h (pos r +ℤ pos k) in (lo ≤ q) × (q < hi)
+          ahead-row k a = let q = reflect-after h r k (omega arith) in within (reflect h (pos r +ℤ pos k)) (omega (arith, q .0)) (omega (arith, q .1)) (reflect-lt h (p .height-from) (pos r +ℤ pos k))
+
+          own-in : (lo ≤ r) × (r < hi)
+          own-in = within r (omega arith) (omega arith) (omega arith)
+
+        ring-run : (l : List ℤ) (F : ℕ → ℕ → ℤ) → 5 * w ≤ length l → Ring 5 w l F lo hi → ((q c : ℕ) → natAbs (F q c) ≤ 75496320) → (q : ℕ) → (lo ≤ q) × (q < hi) → Run 134217728 l (slot 5 w q) w
+        ring-run l F room ring small q b = record {
+          inside = omega (arith, slot-room 5 w q (omega arith));
+          small = λ c k. subst (λ (z : ℤ). natAbs z ≤ 134217728) (sym (ring .holds q c (b .0) (b .1) k)) (le-trans (small q c) (omega arith));
+        }
+
+        a-run : (q : ℕ) → (lo ≤ q) × (q < hi) → Run 134217728 apart (slot 5 w q) w
+        a-run = ring-run apart A room-a aparts apart-small
+
+        b-run : (q : ℕ) → (lo ≤ q) × (q < hi) → Run 134217728 together (slot 5 w q) w
+        b-run = ring-run together B room-b togethers together-small
+
+        pub settleable : Settleable now at apart together w h f n
+        settleable = record {
+          width-from = p .width-from;
+          width-to = p .width-to;
+          height-from = p .height-from;
+          height-to = p .height-to;
+          from = le;
+          to = to;
+          inside = omega (arith, long (omega arith) is, rows-area n to);
+          rows = λ r i j. own-row (omega arith) is r i (omega arith);
+          rings = λ r i j. record {
+            first = a-run _ (back-row r i j 2 (omega arith));
+            second = b-run _ (back-row r i j 1 (omega arith));
+            third = a-run r (own-in r i j);
+            fourth = b-run _ (ahead-row r i j 1 (omega arith));
+            fifth = a-run _ (ahead-row r i j 2 (omega arith));
+          };
+        }
+
+        settled-is : (r c : ℕ) → f ≤ r → r < n → c < w → settled-row low high now at apart together w h r c ≡ settled-plane r c
+        unfolding settled-row settled-plane own-plane ring-sum crossed crossed-along
+        settled-is r c i j m = λ k.
+            settled low high ((ap (value now) place ∙ untouched (omega arith) is r c i (omega arith)) k)
+            (weighted high-join (aparts .holds _ c (back-row r i j 2 (omega arith) .0) (back-row r i j 2 (omega arith) .1) m k) (togethers .holds _ c (back-row r i j 1 (omega arith) .0) (back-row r i j 1 (omega arith) .1) m k)
+            ((aparts .holds r c (own-in r i j .0) (own-in r i j .1) m ∙ ap (λ (q : ℕ). A q c) (sym (reflect-inside h r (omega arith)))) k)
+            (togethers .holds _ c (ahead-row r i j 1 (omega arith) .0) (ahead-row r i j 1 (omega arith) .1) m k) (aparts .holds _ c (ahead-row r i j 2 (omega arith) .0) (ahead-row r i j 2 (omega arith) .1) m k))
+          where
+            place : at + (r * w + c) ≡ at + r * w + c
+            place = omega arith
+
+        pub rows-settled : {out : List ℤ} → out ≡ overwrite now (at + f * w) ((n - f) * w) (λ k. settled-row low high now at apart together w h (f + k / w) (k % w)) → out ≡ with-rows n
+        rows-settled e =
+            e ∙ (λ j. overwrite (is j) (at + f * w) ((n - f) * w) G) ∙ overwrite-append own at (f * w) ((n - f) * w) F G (omega (arith, sum, rows-area n to)) same
+            ∙ ap (λ (z : ℕ). overwrite own at z F) sum
+          where
+            F : ℕ → ℤ
+            F k = settled-plane (k / w) (k % w)
+
+            G : ℕ → ℤ
+            G k = settled-row low high now at apart together w h (f + k / w) (k % w)
+
+            whole : f + (n - f) ≡ n
+            whole = omega arith
+
+            sum : f * w + (n - f) * w ≡ n * w
+            sum = sym (add-mul f (n - f) w) ∙ ap (λ (i : ℕ). i * w) whole
+
+            same : (k : ℕ) → k < (n - f) * w → G k ≡ F (f * w + k)
+            same k b = settled-is (f + k / w) (k % w) (omega arith) (omega (arith, row)) column ∙ sym (λ j. settled-plane (split .0 j) (split .1 j))
+              where
+                row : k / w < n - f
+                row = div-lt-iff-lt-mul (p .width-from) .1 b
+
+                column : k % w < w
+                column = mod-lt k (p .width-from)
+
+                here : f * w + k ≡ (f + k / w) * w + k % w
+                here = omega (arith, add-mul f (k / w) w, div-add-mod' k w)
+
+                split : ((f * w + k) / w ≡ f + k / w) × ((f * w + k) % w ≡ k % w)
+                split = (ap (λ (x : ℕ). x / w) here ∙ digits-div (f + k / w) column, ap (λ (x : ℕ). x % w) here ∙ digits-mod (f + k / w) column)
+
+  -- ---- the settled plane is the projected plane
+  pub settled-projected : 1 ≤ w → 1 ≤ h → (r c : ℕ) → r < h → c < w → settled-plane r c ≡ projected limit low high w h (guide-plane guide from down across) (own-plane own at w) r c
+  unfolding settled-plane settled projected
+  settled-projected wide tall r c i j =
+      ap (λ z. clamp low high (rounded 1024 z))
+      (ap (λ z. pos 1024 *ℤ own-plane own at w r c -ℤ z) (crossed-parts limit w h D r c) ∙ sym (held-sum-fast w h wide tall limit 1 (guide-plane guide from down across) (own-plane own at w) r c i j))
+
+  pub all-projected : 1 ≤ w → 1 ≤ h → {now : List ℤ} → now ≡ with-rows h → now ≡ overwrite own at (w * h) (λ k. projected limit low high w h (guide-plane guide from down across) (own-plane own at w) (k / w) (k % w))
+  all-projected wide tall e =
+      e ∙ ap (λ (n : ℕ). overwrite own at n (λ k. settled-plane (k / w) (k % w))) (mul-comm h w)
+      ∙ overwrite-cong own at (w * h) _ _ (λ k b. settled-projected wide tall (k / w) (k % w) (row-inside w h k b) (column-inside w h k b))

@@ -1,0 +1,4 @@
+pub mod Projection
+pub mod Fast
+pub mod Planes
+pub mod Rows
