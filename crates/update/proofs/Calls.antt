@@ -1,0 +1,86 @@
+-- The laws of the update call: what an accepted call knows, and what it leaves. Assumes nothing.
+use mathlib.Core.Path.{_≡_, refl, _∙_, ap}
+use mathlib.Core.List.{List, [], _∷_}
+use Prim.Native.Nat.{ℕ, _*_, _-_, _≤_, _<_}
+use native.Mathlib.Omega.{arith}
+use lib.Dec.{eqb, leb}
+use lib.IntN.{ℤ, pos}
+use lib.ListN.{length}
+use borrow.Author.Tests.{eqb-true, leb-true}
+use Rattle.integers.proofs.Lists.{length-overwrite, overwrite-again}
+use Rattle.questions.specs.Questions.{Question, question, ceiling, ask, all-at-most, shape-questions, samples-question}
+use Rattle.questions.proofs.Asking.{all-yes, all-yes-split, shape-is}
+use Rattle.questions.proofs.Answering.{answer-no, answer-yes, left-no, left-yes}
+use Rattle.turns.specs.Layout.{red-row, red-column}
+use Rattle.turns.specs.Frames.{Frame, frame, listing, plane-of}
+use Rattle.turns.proofs.Pictures.{row-lt}
+use Rattle.update.specs.Update.{places, put-mixed, update}
+use Rattle.update.specs.Calls.{update-questions, number-of-answer, update-list, zeroed, UpdateResult}
+use Rattle.update.specs.Places.{Updatable, with-mixed}
+use Rattle.update.specs.declared.UpdateAnswer.the-variants.{Accepted, Refused}
+use Rattle.update.proofs.Places.{few-places, second-colour}
+
+-- 6, 8, 9 and 10, where a plane has `count` numbers
+abbrev pub plane-questions : ℕ → List ℕ → List ℕ → ℕ → List Question
+plane-questions count mosaic green room =
+    question 6 (eqb (length mosaic) count) ∷ question 6 (eqb (length green) count) ∷ question 8 (leb (8 * count) room) ∷ samples-question ceiling mosaic ∷ question 10 (all-at-most ceiling green) ∷ []
+
+-- ---- what an accepted call knows
+pub updatable : (f : Frame) (green : List ℕ) (room n : ℕ) → n ≡ ask (update-questions f green room) → n ≡ 0 → Updatable (f .width) (f .height) (f .samples) green room
+updatable f green room n e z =
+    let count = f .width * f .height in
+    let y = all-yes-split (shape-questions (f .width) (f .height) (f .layout)) (plane-questions count (f .samples) green room) (all-yes (update-questions f green room) tt n e z) in
+    let s = shape-is (f .width) (f .height) (f .layout) (y .0) in
+    record {
+      width-from = s .width-from;
+      width-to = s .width-to;
+      height-from = s .height-from;
+      height-to = s .height-to;
+      samples = eqb-true (length (f .samples)) count (y .1 .0);
+      estimate = eqb-true (length green) count (y .1 .1 .0);
+      work = leb-true (8 * count) room (y .1 .1 .1 .0);
+    }
+
+-- ---- what it leaves
+-- green: blue places, and then red places
+pub both-colours : (top w h l : ℕ) (mosaic green : List ℕ) {first second : List ℕ}
+    → first ≡ listing w h (put-mixed top w h (1 - red-row l) (1 - red-column l) (plane-of 0 w mosaic) (plane-of 0 w green) (plane-of 0 w green))
+    → second ≡ listing w h (put-mixed top w h (red-row l) (red-column l) (plane-of 0 w mosaic) (plane-of 0 w first) (plane-of 0 w first))
+    → second ≡ update-list top (frame w h l mosaic) green
+unfolding update-list update
+both-colours top w h l mosaic green e q =
+    q ∙ second-colour top w h (red-row l) (red-column l) (1 - red-row l) (1 - red-column l) (λ x. let lt : red-row l < 2 = row-lt l in omega arith) (plane-of 0 w mosaic) (plane-of 0 w green) e
+
+-- the work buffer: zeroed, whatever a colour left in its first w · h
+module _ (top w h a b : ℕ) (mosaic green : List ℕ) (work : List ℤ) (hw : 1 ≤ w) (hh : 1 ≤ h) (room : 8 * (w * h) ≤ length work) where
+  length-with-mixed : length (with-mixed top w h a b mosaic green work) ≡ length work
+  unfolding with-mixed
+  length-with-mixed = length-overwrite work 0 (places w b * places h a) _ (omega (arith, few-places w h a b hw hh, room))
+
+  zeroed-mixed : zeroed w h (with-mixed top w h a b mosaic green work) ≡ zeroed w h work
+  unfolding zeroed with-mixed
+  zeroed-mixed = overwrite-again (pos 0) work 0 (places w b * places h a) (8 * (w * h)) _ (λ k. pos 0) (omega (arith, few-places w h a b hw hh)) (omega (arith, room))
+
+-- and whatever both did
+pub all-zero : (top w h a b c d : ℕ) (mosaic green after : List ℕ) (work : List ℤ) → 1 ≤ w → 1 ≤ h → 8 * (w * h) ≤ length work → {first second last : List ℤ}
+    → first ≡ with-mixed top w h a b mosaic green work → second ≡ with-mixed top w h c d mosaic after first → last ≡ zeroed w h second
+    → last ≡ zeroed w h work
+all-zero top w h a b c d mosaic green after work hw hh room {first} p q r =
+    r ∙ ap (zeroed w h) q ∙ zeroed-mixed top w h c d mosaic after first hw hh (omega (arith, room, ap length p, length-with-mixed top w h a b mosaic green work hw hh room))
+    ∙ ap (zeroed w h) p ∙ zeroed-mixed top w h a b mosaic green work hw hh room
+
+-- refused and accepted
+module _ (f : Frame) (green : List ℕ) (work : List ℤ) (n : ℕ) (e : n ≡ ask (update-questions f green (length work))) where
+  pub update-no : (n ≡ 0 → ⊥) → UpdateResult f green work (Refused n) green work
+  update-no z = record {
+    answer = answer-no number-of-answer (update-questions f green (length work)) Accepted (Refused n) e z;
+    plane = left-no (update-questions f green (length work)) (update-list ceiling f green) green n e z;
+    buffer = left-no (update-questions f green (length work)) (zeroed (f .width) (f .height) work) work n e z;
+  }
+
+  pub update-yes : n ≡ 0 → {green-after : List ℕ} {work-after : List ℤ} → green-after ≡ update-list ceiling f green → work-after ≡ zeroed (f .width) (f .height) work → UpdateResult f green work Accepted green-after work-after
+  update-yes z p q = record {
+    answer = answer-yes number-of-answer (update-questions f green (length work)) Accepted Accepted n e z refl refl;
+    plane = p ∙ left-yes (update-questions f green (length work)) (update-list ceiling f green) green n e z;
+    buffer = q ∙ left-yes (update-questions f green (length work)) (zeroed (f .width) (f .height) work) work n e z;
+  }

@@ -1,0 +1,4 @@
+pub mod Mixing
+pub mod Turned
+pub mod Places
+pub mod Calls

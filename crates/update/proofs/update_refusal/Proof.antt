@@ -1,0 +1,106 @@
+-- `update::update_refusal` meets its contract: 1, 2 and 3, then 6, 8, 9 and 10.
+-- Assumes nothing.
+use mathlib.Core.Path.{_≡_}
+use mathlib.Core.Bool.{true, false}
+use Prim.Native.Nat.{ℕ, _*_, _≤_, _<_}
+use native.Mathlib.Omega.{arith}
+use denote.Ref.{now}
+use borrow.Author.Needs.{needs}
+use Rattle.integers.proofs.Tests.{tested}
+use Rattle.questions.specs.Questions.{ask, shape-questions}
+use Rattle.questions.proofs.Asking.{asking, ask-first, ask-later, AllYes, all-yes, shape-is}
+use Rattle.turns.specs.Frames.{frame}
+use Rattle.update.specs.Calls.{update-questions}
+use Rattle.update.proofs.Calls.{plane-questions}
+use Rattle.update.proofs.update_refusal.Statement.{statement}
+use Rattle.update.proofs.update_refusal.Tie as tie
+
+shape-requires : tie.Need-shape-requires
+shape-requires c κs = search needs
+
+returns : tie.Need-returns
+returns c =
+    let a = c .before .before .before .before .args in
+    ask-first (shape-questions (a .width) (a .height) (a .layout)) _ _ (c .before .shape .ensures) (c .if1 .taken)
+
+known : (c : tie.Else1)
+    → let a = c .before .before .before .before .args in AllYes (shape-questions (a .width) (a .height) (a .layout))
+known c =
+    let a = c .before .before .before .before .args in
+    all-yes (shape-questions (a .width) (a .height) (a .layout)) tt (c .before .shape .result) (c .before .shape .ensures) (c .if1 .left)
+
+mul-count : tie.Need-mul-count
+mul-count c =
+    let a = c .before .before .before .before .args in
+    record { fits = omega (arith, shape-is (a .width) (a .height) (a .layout) (known c) .area) }
+
+-- 6, 8, 9 and 10
+rest : (c : tie.Else1) (m : ℕ)
+    → let a = c .before .before .before .before .args in
+    m ≡ ask (plane-questions (a .width * a .height) (now (a .mosaic)) (now (a .green)) (a .room)) → m ≡ ask (update-questions (frame (a .width) (a .height) (a .layout) (now (a .mosaic))) (now (a .green)) (a .room))
+rest c m r = let a = c .before .before .before .before .args in ask-later (shape-questions (a .width) (a .height) (a .layout)) _ m (known c) r
+
+returns-2 : tie.Need-returns-2
+returns-2 c = rest (c .before) _ (search asking depth 24)
+
+returns-3 : tie.Need-returns-3
+returns-3 c = rest (c .before .before) _ (search asking depth 24)
+
+mul-if4 : tie.Need-mul-if4
+mul-if4 c =
+    let a = c .before .before .before .before .before .before .args in
+    record { fits = omega (arith, shape-is (a .width) (a .height) (a .layout) (known (c .before .before)) .area) }
+
+returns-4 : tie.Need-returns-4
+returns-4 c =
+    let a = c .before .before .before .before .before .before .before .args in
+    let short : a .room < 8 * (a .width * a .height) = omega (arith, c .if4 .taken) in
+    rest (c .before .before .before) _ (search asking depth 24)
+
+-- the work buffer is long enough
+long : (c : tie.Else4)
+    → let a = c .before .before .before .before .before .before .before .args in 8 * (a .width * a .height) ≤ a .room
+long c = omega (arith, c .if4 .left)
+
+samples-within-requires : tie.Need-samples-within-requires
+samples-within-requires c κs = search needs
+
+returns-5 : tie.Need-returns-5
+returns-5 c =
+    let room = long (c .before .before) in
+    let above = tested true (c .before .samples-within .ensures) (c .if5 .taken) in
+    rest (c .before .before .before .before .before) _ (search asking depth 24)
+
+samples-within-requires-2 : tie.Need-samples-within-requires-2
+samples-within-requires-2 c κs = search needs
+
+returns-6 : tie.Need-returns-6
+returns-6 c =
+    let room = long (c .before .before .before .before) in
+    let within = tested false (c .before .before .before .samples-within .ensures) (c .before .before .if5 .left) in
+    let above = tested true (c .before .samples-within2 .ensures) (c .if6 .taken) in
+    rest (c .before .before .before .before .before .before .before) _ (search asking depth 24)
+
+returns-7 : tie.Need-returns-7
+returns-7 c =
+    let room = long (c .before .before .before .before) in
+    let within = tested false (c .before .before .before .samples-within .ensures) (c .before .before .if5 .left) in
+    let within2 = tested false (c .before .samples-within2 .ensures) (c .if6 .left) in
+    rest (c .before .before .before .before .before .before .before) _ (search asking depth 24)
+
+pub update-refusal-spec : {M : Type 1} → statement M
+update-refusal-spec =
+    tie.close
+    (tie.spec
+    shape-requires
+    returns
+    mul-count
+    returns-2
+    returns-3
+    mul-if4
+    returns-4
+    samples-within-requires
+    returns-5
+    samples-within-requires-2
+    returns-6
+    returns-7)

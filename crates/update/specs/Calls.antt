@@ -1,0 +1,43 @@
+-- The green update call: what it asks, and what its answer, its green and its work buffer are then. Assumes nothing.
+use mathlib.Core.Path.{_≡_}
+use mathlib.Core.List.{List, [], _∷_, _++_}
+use Prim.Native.Nat.{ℕ, _*_}
+use lib.Dec.{eqb, leb}
+use lib.IntN.{ℤ, pos}
+use lib.ListN.{length}
+use Rattle.integers.specs.Lists.{overwrite}
+use Rattle.questions.specs.Questions.{Question, question, ceiling, all-at-most, shape-questions, samples-question}
+use Rattle.questions.specs.Answers.{Answered, if-accepted}
+use Rattle.turns.specs.Frames.{Frame, listing, plane-of}
+use Rattle.update.specs.Update.{update}
+use Rattle.update.specs.declared.UpdateAnswer.{UpdateAnswer}
+use Rattle.update.specs.declared.UpdateAnswer.the-variants as update-answer
+
+-- ---- the questions, in document 01's order: 1, 2, 3, 6 of mosaic and green, 8, 9, 10 of green
+abbrev pub update-questions : Frame → List ℕ → ℕ → List Question
+update-questions f green room =
+    shape-questions (f .width) (f .height) (f .layout)
+    ++ (question 6 (eqb (length (f .samples)) (f .width * f .height)) ∷ question 6 (eqb (length green) (f .width * f .height))
+    ∷ question 8 (leb (8 * (f .width * f .height)) room) ∷ samples-question ceiling (f .samples) ∷ question 10 (all-at-most ceiling green) ∷ [])
+
+-- document 01's number of an answer
+abbrev pub number-of-answer : UpdateAnswer → ℕ
+number-of-answer update-answer.Accepted = 0
+number-of-answer (update-answer.Refused number) = number
+
+-- ---- what is promised
+-- the updated green, row by row
+unfoldable pub update-list : ℕ → Frame → List ℕ → List ℕ
+update-list top f green =
+    listing (f .width) (f .height) (update top (f .width) (f .height) (f .layout) (λ r c. (plane-of 0 (f .width) (f .samples) r c, plane-of 0 (f .width) green r c)))
+
+-- a work buffer after an accepted call: its first 8·w·h hold 0, and the rest is untouched
+unfoldable pub zeroed : ℕ → ℕ → List ℤ → List ℤ
+zeroed w h work = overwrite work 0 (8 * (w * h)) (λ k. pos 0)
+
+-- The update call, given frame f, a green plane that held `green`, and a work buffer that held `work`: its answer r, and what the two
+-- hold after.
+pub record UpdateResult (f : Frame) (green : List ℕ) (work : List ℤ) (r : UpdateAnswer) (green-after : List ℕ) (work-after : List ℤ) : Type 0 where
+  pub answer : Answered number-of-answer (update-questions f green (length work)) update-answer.Accepted r
+  pub plane : green-after ≡ if-accepted (update-questions f green (length work)) (update-list ceiling f green) green
+  pub buffer : work-after ≡ if-accepted (update-questions f green (length work)) (zeroed (f .width) (f .height) work) work

@@ -1,0 +1,205 @@
+// Document 01's green update.
+ghost use mathlib.Core.Path.{_≡_};
+ghost use Prim.Native.Nat.{_+_, _*_, _≤_, _<_};
+ghost use lib.Dec.{T};
+ghost use lib.IntN.{pos, natAbs};
+ghost use lib.ListN.{length};
+ghost use lib.Signed.{nonNeg};
+ghost use Rattle.integers.specs.Lists.{overwrite};
+ghost use Rattle.questions.specs.Questions.{ceiling, ask};
+ghost use Rattle.turns.specs.Frames.{frame, listing, plane-of};
+ghost use Rattle.lines.specs.Lines.{value};
+ghost use Rattle.update.specs.Update.{put-mixed};
+ghost use Rattle.update.specs.Calls.{update-questions, number-of-answer, update-list, zeroed, UpdateResult};
+ghost use Rattle.update.specs.Places.{place, sample, put, Seconds, SecondRows, Narrow, Updatable, with-mixed};
+
+// What the update call answers.
+pub enum UpdateAnswer {
+    Accepted,
+    Refused(u32),
+}
+
+impl UpdateAnswer {
+    // Document 01's number of a refusal, or 0.
+    pub fn number(self) -> u32
+        ensures { λ r. ⌜ r ≡ number-of-answer self ⌝ }
+    {
+        match self {
+            UpdateAnswer::Accepted => 0,
+            UpdateAnswer::Refused(number) => number,
+        }
+    }
+}
+
+// A sample as a signed number, and back.
+fn widened(x: u16) -> i32
+    ensures { λ r. ⌜ r ≡ pos x ⌝ }
+{
+    x as i32
+}
+
+fn narrowed(z: i32) -> u16
+    requires { ⌜ T (nonNeg z) × (natAbs z ≤ 65535) ⌝ }
+    ensures { λ r. ⌜ r ≡ natAbs z ⌝ }
+{
+    z as u16
+}
+
+// Every second sample of a row, n of them from `from` on: into the work buffer, from `to` on.
+fn gather_row(green: &[u16], from: usize, n: usize, work: &mut [i32], to: usize)
+    requires { ⌜ Seconds (now green) from n × (to + n ≤ length (now work)) ⌝ }
+    ensures { λ _. ⌜ now (work .exit) ≡ overwrite (now (work .entry)) to n (λ k. sample (now (green .entry)) (from + 2 * k)) ⌝ }
+{
+    let mut k = 0;
+    while k < n {
+        work[to + k] = widened(green[from + 2 * k]);
+        k += 1;
+    }
+}
+
+// All rows of a small plane, `down` apart in green, into the work buffer's first numbers.
+fn gather(green: &[u16], from: usize, down: usize, columns: usize, rows: usize, work: &mut [i32])
+    requires { ⌜ SecondRows (now green) from down columns rows × (columns * rows ≤ length (now work)) ⌝ }
+    ensures { λ _. ⌜ now (work .exit) ≡ overwrite (now (work .entry)) 0 (columns * rows) (λ k. sample (now (green .entry)) (place from down columns k)) ⌝ }
+{
+    let mut i = 0;
+    while i < rows {
+        gather_row(green, from + i * down, columns, work, i * columns);
+        i += 1;
+    }
+}
+
+// n numbers of the work buffer, from `at` on, back to every second place of a row.
+fn scatter_row(work: &[i32], at: usize, n: usize, green: &mut [u16], from: usize)
+    requires { ⌜ Narrow (now work) at n × Seconds (now green) from n ⌝ }
+    ensures { λ _. ⌜ now (green .exit) ≡ put (now (green .entry)) n (λ k. from + 2 * k) (λ k. natAbs (value (now (work .entry)) (at + k))) ⌝ }
+{
+    let mut k = 0;
+    while k < n {
+        green[from + 2 * k] = narrowed(work[at + k]);
+        k += 1;
+    }
+}
+
+// All rows of a small plane back to their places in green.
+fn scatter(work: &[i32], columns: usize, rows: usize, green: &mut [u16], from: usize, down: usize)
+    requires { ⌜ Narrow (now work) 0 (columns * rows) × SecondRows (now green) from down columns rows ⌝ }
+    ensures { λ _. ⌜ now (green .exit) ≡ put (now (green .entry)) (columns * rows) (place from down columns) (λ k. natAbs (value (now (work .entry)) k)) ⌝ }
+{
+    let mut i = 0;
+    while i < rows {
+        scatter_row(work, i * columns, columns, green, from + i * down);
+        i += 1;
+    }
+}
+
+// Green at a colour's places, which have the parities a in row and b in column. Held within 0 of the colour's details, it keeps its
+// band 1 and takes the colour's bands 2 to 4.
+fn update_places(
+    width: usize,
+    height: usize,
+    a: usize,
+    b: usize,
+    mosaic: &[u16],
+    green: &mut [u16],
+    work: &mut [i32],
+)
+    requires { ⌜ Updatable width height (now mosaic) (now green) (length (now work)) × (a < 2) × (b < 2) ⌝ }
+    ensures { λ _. ⌜ now (green .exit) ≡ listing width height (put-mixed ceiling width height a b (plane-of 0 width (now (mosaic .entry))) (plane-of 0 width (now (green .entry))) (plane-of 0 width (now (green .entry)))) ⌝ }
+    ensures { λ _. ⌜ now (work .exit) ≡ with-mixed ceiling width height a b (now (mosaic .entry)) (now (green .entry)) (now (work .entry)) ⌝ }
+{
+    let columns = (width + 1 - b) / 2;
+    let rows = (height + 1 - a) / 2;
+    let from = a * width + b;
+    let down = 2 * width;
+    gather(green, from, down, columns, rows, work);
+    projection::project(work, 0, mosaic, from, down, 2, columns, rows, 0, 0, 4095);
+    scatter(work, columns, rows, green, from, down);
+}
+
+// The first n numbers of the work buffer to 0.
+fn zero(work: &mut [i32], n: usize)
+    requires { ⌜ n ≤ length (now work) ⌝ }
+    ensures { λ _. ⌜ now (work .exit) ≡ overwrite (now (work .entry)) 0 n (λ k. pos 0) ⌝ }
+{
+    let mut k = 0;
+    while k < n {
+        work[k] = 0;
+        k += 1;
+    }
+}
+
+// Questions 1, 2, 3, 6, 8, 9 and 10, of a work buffer that has room for so many numbers.
+fn update_refusal(
+    width: usize,
+    height: usize,
+    layout: u8,
+    mosaic: &[u16],
+    green: &[u16],
+    room: usize,
+) -> u32
+    ensures { λ r. ⌜ r ≡ ask (update-questions (frame width height layout (now (mosaic .entry))) (now (green .entry)) room) ⌝ }
+{
+    let number = questions::shape(width, height, layout);
+    if number != 0 {
+        return number;
+    }
+    let count = width * height;
+    if mosaic.len() != count {
+        return 6;
+    }
+    if green.len() != count {
+        return 6;
+    }
+    if room < 8 * count {
+        return 8;
+    }
+    if !questions::samples_within(4095, mosaic) {
+        return 9;
+    }
+    if !questions::samples_within(4095, green) {
+        return 10;
+    }
+    0
+}
+
+// Blue places and then red places, and the work buffer zeroed. Red's green is as it was: blue has the other parities.
+fn update_colours(
+    width: usize,
+    height: usize,
+    layout: u8,
+    mosaic: &[u16],
+    green: &mut [u16],
+    work: &mut [i32],
+)
+    requires { ⌜ Updatable width height (now mosaic) (now green) (length (now work)) ⌝ }
+    ensures { λ _. ⌜ now (green .exit) ≡ update-list ceiling (frame width height layout (now (mosaic .entry))) (now (green .entry)) ⌝ }
+    ensures { λ _. ⌜ now (work .exit) ≡ zeroed width height (now (work .entry)) ⌝ }
+{
+    let red_row = (layout / 2 % 2) as usize;
+    let red_column = (layout % 2) as usize;
+    let blue_row = 1 - red_row;
+    let blue_column = 1 - red_column;
+    update_places(width, height, blue_row, blue_column, mosaic, green, work);
+    update_places(width, height, red_row, red_column, mosaic, green, work);
+    zero(work, 8 * (width * height));
+}
+
+// Updates the green estimate of a mosaic in place. The work buffer's first 8 · width · height numbers are scratch.
+pub fn update(
+    width: usize,
+    height: usize,
+    layout: u8,
+    mosaic: &[u16],
+    green: &mut [u16],
+    work: &mut [i32],
+) -> UpdateAnswer
+    ensures { λ r. ⌜ UpdateResult (frame width height layout (now (mosaic .entry))) (now (green .entry)) (now (work .entry)) r (now (green .exit)) (now (work .exit)) ⌝ }
+{
+    let refusal = update_refusal(width, height, layout, mosaic, green, work.len());
+    if refusal != 0 {
+        return UpdateAnswer::Refused(refusal);
+    }
+    update_colours(width, height, layout, mosaic, green, work);
+    UpdateAnswer::Accepted
+}
