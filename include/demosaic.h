@@ -64,6 +64,38 @@ uint32_t demosaic_join(size_t width, size_t height, const int32_t *band1, size_t
                        const int32_t *band4, size_t band4_length, int32_t *sums, size_t sums_length);
 uint16_t demosaic_bring_back(int32_t sum);
 
+/*
+ * The first estimates of a mosaic, and the update of its green. A mosaic and its planes are width * height
+ * samples each, row by row. Red sits on even rows and even columns in layout 0, even rows and odd columns in 1,
+ * odd rows and even columns in 2, odd and odd in 3; blue has the other parity in both; all else is green. Each
+ * call answers 0, or the number of the first question answered no; then no buffer was touched.
+ *
+ *    1  the width is 2 to 2,048?
+ *    2  the height is 2 to 2,048?
+ *    3  the layout is 0 to 3?
+ *    6  what is given (the mosaic; in the update also green) has exactly width * height samples?
+ *    7  what is filled (the three planes of the estimate) has exactly width * height samples each?
+ *    8  the work buffer (of the update) has at least 8 * width * height numbers?
+ *    9  the mosaic's samples are at most 4,095 each?
+ *   10  the samples of the green that is given (to the update) are at most 4,095 each?
+ *
+ * demosaic_estimate fills red, green and blue; observed samples are kept.
+ *
+ * demosaic_update rewrites green in place, at the red and the blue places; samples at green places stay. It
+ * needs the mosaic, the green of the estimate, and a work buffer, whose first 8 * width * height numbers hold 0
+ * afterwards and whose rest is untouched.
+ *
+ * What the caller has to keep: each pointer is not null and points to as many numbers as are said, and no buffer
+ * that is filled or rewritten overlaps another buffer of the same call.
+ */
+uint32_t demosaic_estimate(size_t width, size_t height, uint8_t layout,
+                           const uint16_t *mosaic, size_t mosaic_length,
+                           uint16_t *red, size_t red_length, uint16_t *green, size_t green_length,
+                           uint16_t *blue, size_t blue_length);
+uint32_t demosaic_update(size_t width, size_t height, uint8_t layout,
+                         const uint16_t *mosaic, size_t mosaic_length,
+                         uint16_t *green, size_t green_length, int32_t *work, size_t work_length);
+
 #ifdef __cplusplus
 }
 #endif

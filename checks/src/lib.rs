@@ -5,10 +5,16 @@
 
 pub mod bank;
 pub mod border;
+pub mod buffers;
 pub mod chance;
+pub mod estimate;
+pub mod mosaic;
+pub mod mosaics;
 pub mod packet;
 pub mod packet_examples;
+pub mod refusals;
 pub mod turns;
+pub mod update;
 pub mod worked_examples;
 
 /// The programs of examples, and what each must write.

@@ -1,7 +1,10 @@
-//! The filter bank's C calls.
+//! The C calls of the filter bank, of the first estimates and of the green update.
 //!
-//! This is no module of the crate: what links the crate would then need the static library. The test of the bank and the
+//! This is no module of the crate: what links the crate would then need the static library. The tests of these calls and the
 //! benchmark take the file in by its path.
+
+// a test makes its own calls only
+#![allow(dead_code)]
 
 #[link(name = "demosaic_c", kind = "static")]
 unsafe extern "C" {
@@ -36,6 +39,32 @@ unsafe extern "C" {
     ) -> u32;
 
     safe fn demosaic_bring_back(sum: i32) -> u16;
+
+    fn demosaic_estimate(
+        width: usize,
+        height: usize,
+        layout: u8,
+        mosaic: *const u16,
+        mosaic_len: usize,
+        red: *mut u16,
+        red_len: usize,
+        green: *mut u16,
+        green_len: usize,
+        blue: *mut u16,
+        blue_len: usize,
+    ) -> u32;
+
+    fn demosaic_update(
+        width: usize,
+        height: usize,
+        layout: u8,
+        mosaic: *const u16,
+        mosaic_len: usize,
+        green: *mut u16,
+        green_len: usize,
+        work: *mut i32,
+        work_len: usize,
+    ) -> u32;
 }
 
 fn answer(number: u32) -> Result<(), u32> {
@@ -89,4 +118,54 @@ pub fn join(width: usize, height: usize, bands: [&[i32]; 4], sums: &mut [i32]) -
 
 pub fn bring_back(sum: i32) -> u16 {
     demosaic_bring_back(sum)
+}
+
+pub fn estimate(
+    width: usize,
+    height: usize,
+    layout: u8,
+    mosaic: &[u16],
+    planes: [&mut [u16]; 3],
+) -> Result<(), u32> {
+    let [red, green, blue] = planes;
+    // as in the split
+    answer(unsafe {
+        demosaic_estimate(
+            width,
+            height,
+            layout,
+            mosaic.as_ptr(),
+            mosaic.len(),
+            red.as_mut_ptr(),
+            red.len(),
+            green.as_mut_ptr(),
+            green.len(),
+            blue.as_mut_ptr(),
+            blue.len(),
+        )
+    })
+}
+
+pub fn update(
+    width: usize,
+    height: usize,
+    layout: u8,
+    mosaic: &[u16],
+    green: &mut [u16],
+    work: &mut [i32],
+) -> Result<(), u32> {
+    // as in the split
+    answer(unsafe {
+        demosaic_update(
+            width,
+            height,
+            layout,
+            mosaic.as_ptr(),
+            mosaic.len(),
+            green.as_mut_ptr(),
+            green.len(),
+            work.as_mut_ptr(),
+            work.len(),
+        )
+    })
 }

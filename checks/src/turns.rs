@@ -1,19 +1,6 @@
 //! Document 01, "Turns".
 
-/// Red's parities in a layout: of its rows, and of its columns.
-pub fn red_parities(layout: u8) -> (usize, usize) {
-    match layout {
-        0 => (0, 0),
-        1 => (0, 1),
-        2 => (1, 0),
-        3 => (1, 1),
-        _ => panic!("no layout {layout}"),
-    }
-}
-
-pub fn layout_of(red: (usize, usize)) -> u8 {
-    (0..4).find(|&l| red_parities(l) == red).unwrap()
-}
+use crate::mosaic::{self, layout_of, red_parities};
 
 #[derive(Clone, Debug, PartialEq)]
 pub struct Frame {
@@ -90,14 +77,8 @@ pub fn then_another(first: u8, second: u8) -> Result<u8, u32> {
 pub fn shape_refusal(turn: u8, width: usize, height: usize, layout: u8) -> Option<u32> {
     if turn > 7 {
         Some(16)
-    } else if !(2..=2048).contains(&width) {
-        Some(1)
-    } else if !(2..=2048).contains(&height) {
-        Some(2)
-    } else if layout > 3 {
-        Some(3)
     } else {
-        None
+        mosaic::shape_refusal(width, height, layout)
     }
 }
 

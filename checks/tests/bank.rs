@@ -3,13 +3,17 @@
 
 use checks::bank::{self, JOIN_LIMIT, SPLIT_LIMIT};
 use checks::border::reflect;
+use checks::buffers::{assert_same, Buffer, Number};
 use checks::chance::Chance;
-use std::collections::BTreeMap;
+use checks::refusals::{sets, wrong_lengths, Counts, NO_LENGTH};
 
 #[path = "../src/library.rs"]
 mod library;
 
 type Buffers = Vec<Vec<i32>>;
+
+/// Buffers with the places beside them.
+type Handed = Vec<Buffer<i32>>;
 
 /// A call over its given buffers and its lent ones.
 type Asked = fn(usize, usize, Vec<&[i32]>, Vec<&mut [i32]>) -> Result<(), u32>;
@@ -68,57 +72,17 @@ impl Ask {
     }
 }
 
-/// How far the places beside a buffer are looked at. It is odd, so that a buffer starts at no round address.
-const BESIDE: usize = 7;
-
-/// What a lent buffer, and the places beside any buffer, hold before a call: in turn below and above all that a call is
-/// given or answers, and another value at each place.
-fn pattern(length: usize) -> Vec<i32> {
-    let below_or_above = |k: i32| if k % 2 == 0 { -2_000_000_000 + k } else { 2_000_000_000 - k };
-    (0..length as i32).map(below_or_above).collect()
-}
-
-/// The values with the pattern on either side.
-fn with_places_beside(values: &[i32]) -> Vec<i32> {
-    let mut all = pattern(values.len() + 2 * BESIDE);
-    all[BESIDE..BESIDE + values.len()].copy_from_slice(values);
-    all
-}
-
-fn inside(all: &[i32]) -> &[i32] {
-    &all[BESIDE..all.len() - BESIDE]
-}
-
-fn inside_mut(all: &mut [i32]) -> &mut [i32] {
-    let end = all.len() - BESIDE;
-    &mut all[BESIDE..end]
-}
-
-/// The answer, the given buffers after the call and the lent ones, each with the places beside it.
-fn asked(call: Asked, ask: &Ask) -> (Result<(), u32>, Buffers, Buffers) {
-    let given: Buffers = ask.given.iter().map(|values| with_places_beside(values)).collect();
-    let mut lent: Buffers = ask.lent.iter().map(|&length| pattern(length + 2 * BESIDE)).collect();
+/// The answer, the given buffers after the call and the lent ones.
+fn asked(call: Asked, ask: &Ask) -> (Result<(), u32>, Handed, Handed) {
+    let given: Handed = ask.given.iter().map(|values| Buffer::given(values)).collect();
+    let mut lent: Handed = ask.lent.iter().map(|&length| Buffer::lent(length)).collect();
     let answer = call(
         ask.width,
         ask.height,
-        given.iter().map(|all| inside(all)).collect(),
-        lent.iter_mut().map(|all| inside_mut(all)).collect(),
+        given.iter().map(|buffer| buffer.inside()).collect(),
+        lent.iter_mut().map(|buffer| buffer.inside_mut()).collect(),
     );
     (answer, given, lent)
-}
-
-/// Fails at the first place where the two differ; whole buffers would be too long to print.
-fn assert_same(found: &[i32], due: &[i32], what: &str) {
-    assert_eq!(found.len(), due.len(), "{what}");
-    if let Some(k) = (0..due.len()).find(|&k| found[k] != due[k]) {
-        panic!("{what}, place {k}: {} in place of {}", found[k], due[k]);
-    }
-}
-
-/// The buffer holds what is due, and the places beside it hold what they held.
-fn assert_left(all: &[i32], due: &[i32], what: &str) {
-    assert_same(inside(all), due, what);
-    assert_same(all, &with_places_beside(due), &format!("{what}, counted from {BESIDE} places before it"));
 }
 
 /// Asks the library and the reference alike, compares the answers and the buffers, and hands back the library's number
@@ -129,16 +93,16 @@ fn compared(call: &Call, ask: &Ask, kind: &str) -> (u32, Buffers) {
     let (due_answer, _, due) = asked(call.reference, ask);
     assert_eq!(answer, due_answer, "{what}");
     for (k, values) in ask.given.iter().enumerate() {
-        assert_left(&given[k], values, &format!("{what}: given buffer {}", k + 1));
+        given[k].assert_holds(values, &format!("{what}: given buffer {}", k + 1));
     }
     for k in 0..call.lent {
         let what = format!("{what}: lent buffer {}", k + 1);
-        assert_left(&lent[k], inside(&due[k]), &what);
+        lent[k].assert_holds(due[k].inside(), &what);
         if answer.is_err() {
-            assert_same(&lent[k], &pattern(lent[k].len()), &format!("{what}, refused"));
+            lent[k].assert_untouched(&format!("{what}, refused"));
         }
     }
-    let lent = lent.iter().map(|all| inside(all).to_vec()).collect();
+    let lent = lent.iter().map(|buffer| buffer.inside().to_vec()).collect();
     (answer.err().unwrap_or(0), lent)
 }
 
@@ -153,7 +117,7 @@ fn accepted(call: &Call, ask: &Ask, kind: &str) -> Buffers {
 fn split_then_joined(width: usize, height: usize, plane: &[i32], kind: &str) {
     let what = format!("join of the split of {width} by {height}, {kind}");
     let bands = accepted(&SPLIT, &Ask::of(&SPLIT, width, height, vec![plane.to_vec()]), kind);
-    let mut sums = pattern(plane.len());
+    let mut sums: Vec<i32> = (0..plane.len()).map(Number::pattern).collect();
     let given = bands.iter().map(|band| &band[..]).collect();
     assert_eq!((JOIN.library)(width, height, given, vec![&mut sums]), Ok(()), "{what}");
     let due: Vec<i32> = plane.iter().map(|value| 1024 * value).collect();
@@ -333,19 +297,12 @@ fn sums_brought_back() {
     }
 }
 
-/// How often each number was answered.
-type Counts = BTreeMap<u32, usize>;
-
 /// Asks, expects this number and counts it.
 fn answered(call: &Call, ask: &Ask, number: u32, kind: &str, counts: &mut Counts) {
     let (found, _) = compared(call, ask, kind);
     assert_eq!(found, number, "{} of {} by {}, {kind}", call.name, ask.width, ask.height);
-    *counts.entry(number).or_insert(0) += 1;
+    counts.add(number);
 }
-
-/// No width and no height. Some of them would be in range, or give the right product, in fewer bits.
-const NO_LENGTH: [usize; 10] =
-    [0, 2049, 2050, 4096, 65_536, 65_539, 1 << 32, (1 << 32) + 3, (1 << 63) + 3, usize::MAX];
 
 /// Questions 1 and 2, each answered no alone; and the ends of their ranges.
 fn sizes(call: &Call, chance: &mut Chance, counts: &mut Counts) {
@@ -360,14 +317,6 @@ fn sizes(call: &Call, chance: &mut Chance, counts: &mut Counts) {
         let ask = Ask::sound(call, chance, width, height);
         answered(call, &ask, 0, "an end of the range", counts);
     }
-}
-
-/// Lengths that are not w·h.
-fn wrong_lengths(width: usize, height: usize) -> Vec<usize> {
-    let count = width * height;
-    let near = [count - 1, count + 1, count + 2, count + width, count + height, count - width];
-    let far = [0, 1, 2 * count, 4 * count, count / 2, 1000];
-    near.into_iter().chain(far).filter(|&length| length != count).collect()
 }
 
 /// Questions 6 and 7, each answered no alone: of each buffer, and of two whose lengths together would be right.
@@ -458,8 +407,7 @@ fn wrong(call: &Call, chance: &mut Chance, questions: &[u32]) -> Ask {
 
 /// Every set of questions answered no at once, so that their order shows.
 fn several_wrongs(call: &Call, chance: &mut Chance, counts: &mut Counts) {
-    for set in 0..32 {
-        let questions: Vec<u32> = (0..5).filter(|k| set >> k & 1 == 1).map(|k| QUESTIONS[k]).collect();
+    for questions in sets(&QUESTIONS) {
         let number = questions.first().copied().unwrap_or(0);
         for _ in 0..20 {
             let ask = wrong(call, chance, &questions);
@@ -472,16 +420,12 @@ fn several_wrongs(call: &Call, chance: &mut Chance, counts: &mut Counts) {
 fn refusals() {
     let chance = &mut Chance(0xda94_2042_e4dd_58b5);
     for call in [SPLIT, JOIN] {
-        let counts = &mut Counts::new();
-        sizes(&call, chance, counts);
-        lengths(&call, chance, counts);
-        values(&call, chance, counts);
-        values_in_large_planes(&call, chance, counts);
-        several_wrongs(&call, chance, counts);
-        for number in [0].into_iter().chain(QUESTIONS) {
-            let count = counts.remove(&number).unwrap_or(0);
-            assert!(count >= 20, "{}: the number {number} occurs {count} times only", call.name);
-        }
-        assert!(counts.is_empty(), "{}: numbers that no question has: {counts:?}", call.name);
+        let mut counts = Counts::default();
+        sizes(&call, chance, &mut counts);
+        lengths(&call, chance, &mut counts);
+        values(&call, chance, &mut counts);
+        values_in_large_planes(&call, chance, &mut counts);
+        several_wrongs(&call, chance, &mut counts);
+        counts.assert_complete(call.name, &QUESTIONS);
     }
 }

@@ -5,11 +5,13 @@ use mathlib.Core.List.{map}
 use Rattle.border.specs.Border.{reflect, until-inside}
 use Rattle.turns.specs.Pictures.{then-another, followed-by, steps-of, number-of-steps}
 use Rattle.integers.specs.Lists.{tabulate}
+use Rattle.integers.specs.Numbers.{whole-divided, rounded, clamp}
 use Rattle.turns.specs.Frames.{listing, plane-of}
 use Rattle.filters.specs.Bank.{split, join, filtered, along-rows, along-columns, along, tap, weighted, low-split, high-split, low-join, high-join}
 use Rattle.bank.specs.Calls.{split-lists, join-list}
-use Rattle.cases.specs.Table.{Case, table}
+use Rattle.estimate.specs.Estimates.{around, greens, two-away, gradient, along-line, along-both, eight-greens, hamilton-adams}
+use Rattle.cases.specs.Table.{Case, green-of, table}
 
 pub all-hold : map (λ (x : Case). x .computed) table ≡ map (λ (x : Case). x .stated) table
-unfolding table reflect until-inside then-another followed-by steps-of number-of-steps xor split-lists join-list listing plane-of tabulate split join filtered along-rows along-columns along tap weighted low-split high-split low-join high-join
+unfolding table reflect until-inside then-another followed-by steps-of number-of-steps xor split-lists join-list listing plane-of tabulate split join filtered along-rows along-columns along tap weighted low-split high-split low-join high-join green-of around greens two-away gradient along-line along-both eight-greens hamilton-adams rounded whole-divided clamp
 all-hold = refl

@@ -2,13 +2,16 @@
 -- document 01 states. proofs/Table.antt has the one proof. Assumes nothing.
 use mathlib.Core.List.{List, [], _∷_, _++_}
 use lib.IntN.{ℤ, pos, negℤ}
+use Prim.Native.Nat.{ℕ}
 use Rattle.border.specs.Border.{reflect}
 use Rattle.turns.specs.Pictures.{then-another}
 use Rattle.filters.specs.Bank.{Bands}
 use Rattle.bank.specs.Calls.{split-lists, join-list}
+use Rattle.questions.specs.Questions.{ceiling}
+use Rattle.estimate.specs.Estimates.{around, hamilton-adams}
 
 pub data Letter : Type 0 where
-  a b c d : Letter
+  a b c d h i j : Letter
 
 pub record Case : Type 0 where
   pub letter : Letter
@@ -26,6 +29,14 @@ row = pos 0 ∷ pos 8 ∷ pos 0 ∷ []
 abbrev in-order : Bands (List ℤ) → List ℤ
 in-order l = l .band1 ++ l .band2 ++ l .band3 ++ l .band4
 
+-- green at a place of C 100, left 40, right 60, up and down 50, two away by rows 80 and 80, and two away by columns n and n
+unfoldable pub green-of : ℕ → ℤ
+green-of n = pos (hamilton-adams ceiling (around (line 80 ∷ line 50 ∷ (n ∷ 40 ∷ 100 ∷ 60 ∷ n ∷ []) ∷ line 50 ∷ line 80 ∷ [])))
+  where
+    -- a row of which only the middle is read
+    line : ℕ → List ℕ
+    line m = 0 ∷ 0 ∷ m ∷ 0 ∷ 0 ∷ []
+
 unfoldable pub table : List Case
 table =
     -- reflection of −2 for n = 4, and for n = 2
@@ -36,4 +47,8 @@ table =
     -- plane of one row 0 8 0: band 1 is 64 64 64, band 2 is 64 −64 64, bands 3 and 4 zero; the join gives 0 8192 0
     ∷ case d (in-order (split-lists 3 1 row) ++ join-list 3 1 (split-lists 3 1 row))
     ((pos 64 ∷ pos 64 ∷ pos 64 ∷ []) ++ (pos 64 ∷ negℤ (pos 64) ∷ pos 64 ∷ []) ++ (pos 0 ∷ pos 0 ∷ pos 0 ∷ []) ++ (pos 0 ∷ pos 0 ∷ pos 0 ∷ []) ++ (pos 0 ∷ pos 8192 ∷ pos 0 ∷ []))
+    -- two away by columns 100 and 100: green 50; 60 and 60: 60; 90 and 90: 58
+    ∷ case h (green-of 100 ∷ []) (pos 50 ∷ [])
+    ∷ case i (green-of 60 ∷ []) (pos 60 ∷ [])
+    ∷ case j (green-of 90 ∷ []) (pos 58 ∷ [])
     ∷ []

@@ -3,8 +3,10 @@ ghost use mathlib.Core.Path.{_≡_};
 ghost use Rattle.questions.specs.Questions.{ask, ceiling};
 ghost use Rattle.packet.specs.Calls.{read-questions};
 ghost use Rattle.filters.specs.Bank.{brought-back};
+ghost use Rattle.turns.specs.Frames.{frame};
 ghost use Rattle.bank.specs.Calls.{bands};
-ghost use Rattle.demosaic_c.specs.Calls.{SplitNumber, JoinNumber};
+ghost use Rattle.estimate.specs.Calls.{planes};
+ghost use Rattle.demosaic_c.specs.Calls.{SplitNumber, JoinNumber, EstimateNumber, UpdateNumber};
 
 // A packet's refusal number by the reader's questions, 0 for sound.
 #[no_mangle]
@@ -52,4 +54,35 @@ pub extern "C" fn demosaic_bring_back(sum: i32) -> u16
     ensures { λ r. ⌜ r ≡ brought-back ceiling sum ⌝ }
 {
     filters::bring_back(sum)
+}
+
+// The first estimates of a mosaic, into three planes; 0 or the refusal's number.
+#[no_mangle]
+pub extern "C" fn demosaic_estimate(
+    width: usize,
+    height: usize,
+    layout: u8,
+    mosaic: &[u16],
+    red: &mut [u16],
+    green: &mut [u16],
+    blue: &mut [u16],
+) -> u32
+    ensures { λ r. ⌜ EstimateNumber (frame width height layout (now (mosaic .entry))) (planes (now (red .entry)) (now (green .entry)) (now (blue .entry))) r (planes (now (red .exit)) (now (green .exit)) (now (blue .exit))) ⌝ }
+{
+    estimate::estimate(width, height, layout, mosaic, red, green, blue).number()
+}
+
+// Updates a green estimate in place; 0 or the refusal's number.
+#[no_mangle]
+pub extern "C" fn demosaic_update(
+    width: usize,
+    height: usize,
+    layout: u8,
+    mosaic: &[u16],
+    green: &mut [u16],
+    work: &mut [i32],
+) -> u32
+    ensures { λ r. ⌜ UpdateNumber (frame width height layout (now (mosaic .entry))) (now (green .entry)) (now (work .entry)) r (now (green .exit)) (now (work .exit)) ⌝ }
+{
+    update::update(width, height, layout, mosaic, green, work).number()
 }

@@ -1,0 +1,330 @@
+//! The C call `demosaic_estimate` answers what the reference answers, and leaves in every buffer, and beside it, what the
+//! reference leaves.
+
+use checks::buffers::Buffer;
+use checks::chance::Chance;
+use checks::estimate::estimate;
+use checks::mosaics::{kinds, spike};
+use checks::refusals::{sets, wrong_lengths, Counts, NO_LENGTH};
+
+#[path = "../src/library.rs"]
+mod library;
+
+type Call = fn(usize, usize, u8, &[u16], [&mut [u16]; 3]) -> Result<(), u32>;
+
+/// Red, green and blue.
+type Planes = [Buffer<u16>; 3];
+
+/// What the call is asked with: the shape, the mosaic and the lengths of the three planes.
+#[derive(Clone)]
+struct Ask {
+    width: usize,
+    height: usize,
+    layout: u8,
+    mosaic: Vec<u16>,
+    lent: [usize; 3],
+}
+
+impl Ask {
+    /// With this mosaic, and each plane as long as it has to be.
+    fn of(width: usize, height: usize, layout: u8, mosaic: &[u16]) -> Ask {
+        Ask { width, height, layout, mosaic: mosaic.to_vec(), lent: [width * height; 3] }
+    }
+
+    /// With a layout and a mosaic by chance, and each plane as long as it has to be.
+    fn sound(chance: &mut Chance, width: usize, height: usize) -> Ask {
+        let layout = chance.between(0, 3) as u8;
+        Ask::of(width, height, layout, &chance.samples(width * height))
+    }
+}
+
+/// The answer, the mosaic after the call and the planes.
+fn asked(call: Call, ask: &Ask) -> (Result<(), u32>, Buffer<u16>, Planes) {
+    let mosaic = Buffer::given(&ask.mosaic);
+    let mut planes = ask.lent.map(Buffer::lent);
+    let lent = planes.each_mut().map(|plane| plane.inside_mut());
+    let answer = call(ask.width, ask.height, ask.layout, mosaic.inside(), lent);
+    (answer, mosaic, planes)
+}
+
+/// Asks the library and the reference alike, compares the answers and the buffers, and hands back the library's number and
+/// planes.
+fn compared(ask: &Ask, kind: &str) -> (u32, Planes) {
+    let what = format!("estimate of {} by {}, layout {}, {kind}", ask.width, ask.height, ask.layout);
+    let (answer, mosaic, planes) = asked(library::estimate, ask);
+    let (due_answer, _, due) = asked(estimate, ask);
+    assert_eq!(answer, due_answer, "{what}");
+    mosaic.assert_holds(&ask.mosaic, &format!("{what}: mosaic"));
+    for ((plane, due), colour) in planes.iter().zip(&due).zip(["red", "green", "blue"]) {
+        let what = format!("{what}: {colour}");
+        plane.assert_holds(due.inside(), &what);
+        if answer.is_err() {
+            plane.assert_untouched(&format!("{what}, refused"));
+        }
+    }
+    (answer.err().unwrap_or(0), planes)
+}
+
+/// The library's red, green and blue after an accepted call.
+fn accepted(ask: &Ask, kind: &str) -> [Vec<u16>; 3] {
+    let (number, planes) = compared(ask, kind);
+    assert_eq!(number, 0, "estimate of {} by {}, {kind}", ask.width, ask.height);
+    planes.map(|plane| plane.inside().to_vec())
+}
+
+/// Mosaics of every kind in every layout.
+fn all_kinds(chance: &mut Chance, width: usize, height: usize) {
+    for layout in 0..4 {
+        for (kind, mosaic) in kinds(chance, width, height) {
+            accepted(&Ask::of(width, height, layout, &mosaic), &kind);
+        }
+    }
+}
+
+/// One sample unlike all others, at every place, in every layout.
+fn spikes(width: usize, height: usize) {
+    let count = width * height;
+    for layout in 0..4 {
+        for place in 0..count {
+            for (value, others) in [(4095, 0), (0, 4095), (1, 0), (2001, 2000)] {
+                let mosaic = spike(count, place, value, others);
+                let kind = format!("{value} at place {place}, {others} at the others");
+                accepted(&Ask::of(width, height, layout, &mosaic), &kind);
+            }
+        }
+    }
+}
+
+#[test]
+fn every_small_size() {
+    let chance = &mut Chance(0x9e37_79b9_7f4a_7c15);
+    for width in 2..=12 {
+        for height in 2..=12 {
+            all_kinds(chance, width, height);
+            spikes(width, height);
+        }
+    }
+}
+
+/// Lengths around those that a machine takes at once.
+#[test]
+fn longer_lines() {
+    let chance = &mut Chance(0x0123_4567_89ab_cdef);
+    for length in (13..=40).chain([63, 64, 65, 66, 127, 128, 129, 255, 256, 257]) {
+        for other in [2, 3, 4, 5] {
+            all_kinds(chance, length, other);
+            all_kinds(chance, other, length);
+        }
+    }
+}
+
+#[test]
+fn large_frames() {
+    let chance = &mut Chance(0xfedc_ba98_7654_3210);
+    for (width, height) in [(2048, 2), (2, 2048), (2047, 3), (3, 2047)] {
+        all_kinds(chance, width, height);
+    }
+    let ask = Ask::sound(chance, 2048, 2048);
+    accepted(&ask, "random, often ends");
+    let few = ask.mosaic.iter().map(|sample| sample % 4).collect();
+    accepted(&Ask { mosaic: few, ..ask }, "random among few");
+    accepted(&Ask::sound(chance, 2047, 2047), "random, often ends");
+}
+
+/// Two away, next, itself, next, two away.
+type Line = [u16; 5];
+
+/// Green is this wherever these lines cross: at every place of red and of blue whose 5 by 5 lies inside, in every layout.
+/// The other samples are by chance.
+fn assert_green(chance: &mut Chance, along_row: Line, along_column: Line, due: u16) {
+    let (width, height) = (8, 7);
+    for (i, j) in (2..height - 2).flat_map(|i| (2..width - 2).map(move |j| (i, j))) {
+        let mut mosaic = chance.samples(width * height);
+        for k in 0..5 {
+            mosaic[i * width + j + k - 2] = along_row[k];
+            mosaic[(i + k - 2) * width + j] = along_column[k];
+        }
+        // the layouts in which green is not here
+        for layout in if i % 2 == j % 2 { [0, 3] } else { [1, 2] } {
+            let [_, green, _] = accepted(&Ask::of(width, height, layout, &mosaic), "a lettered case");
+            assert_eq!(green[i * width + j], due, "layout {layout}, row {i}, column {j}");
+        }
+    }
+}
+
+/// As document 01 writes them, mirrored, and with rows and columns exchanged.
+#[test]
+fn cases_h_i_and_j() {
+    let chance = &mut Chance(0x2545_f491_4f6c_dd1d);
+    for (two_columns_away, due) in [(100, 50), (60, 60), (90, 58)] {
+        let column = [80, 50, 100, 50, 80];
+        let row = [two_columns_away, 40, 100, 60, two_columns_away];
+        let mirrored = [two_columns_away, 60, 100, 40, two_columns_away];
+        for row in [row, mirrored] {
+            assert_green(chance, row, column, due);
+            assert_green(chance, column, row, due);
+        }
+    }
+}
+
+/// 2 by 2: a place reads one sample of each other colour only, or both greens twice, and H = V = 0.
+#[test]
+fn two_by_two_by_hand() {
+    let chance = &mut Chance(0xda94_2042_e4dd_58b5);
+    let mut mosaics = vec![vec![100, 50, 50, 20], vec![0, 4095, 4095, 0], vec![4095, 0, 1, 2]];
+    mosaics.extend((0..200).map(|_| chance.samples(4)));
+    // the places of red, of the two greens and of blue
+    let places = [[0, 1, 2, 3], [1, 0, 3, 2], [2, 0, 3, 1], [3, 1, 2, 0]];
+    for (layout, [red, one, other, blue]) in (0..4).zip(places) {
+        for mosaic in &mosaics {
+            let mut green = mosaic.clone();
+            green[red] = (mosaic[one] + mosaic[other] + 1) / 2;
+            green[blue] = green[red];
+            let found = accepted(&Ask::of(2, 2, layout, mosaic), "by hand");
+            let due = [vec![mosaic[red]; 4], green, vec![mosaic[blue]; 4]];
+            assert_eq!(found, due, "layout {layout}, {mosaic:?}");
+        }
+    }
+}
+
+#[test]
+fn three_by_three_by_hand() {
+    let mosaic = [7, 20, 1, 3, 9, 8, 4, 6, 100];
+    let red = [7, 4, 1, 6, 28, 51, 4, 52, 100];
+    let green = [5, 20, 17, 3, 6, 8, 2, 6, 54];
+    assert_eq!(accepted(&Ask::of(3, 3, 0, &mosaic), "by hand"), [red, green, [9; 9]]);
+    // red and blue exchanged
+    assert_eq!(accepted(&Ask::of(3, 3, 3, &mosaic), "by hand"), [[9; 9], green, red]);
+}
+
+/// Asks, expects this number and counts it.
+fn answered(ask: &Ask, number: u32, kind: &str, counts: &mut Counts) {
+    let (found, _) = compared(ask, kind);
+    assert_eq!(found, number, "estimate of {} by {}, {kind}", ask.width, ask.height);
+    counts.add(number);
+}
+
+/// Questions 1 and 2, each answered no alone; and the ends of their ranges.
+fn sizes(chance: &mut Chance, counts: &mut Counts) {
+    for length in NO_LENGTH.into_iter().chain([1]) {
+        for other in [2, 3] {
+            // as long as they would have to be, where that is not too long, and as far as the product fits
+            let product = length.wrapping_mul(other);
+            let count = if product <= 3 * 4096 { product } else { 6 };
+            let ask = Ask::sound(chance, count, 1);
+            answered(&Ask { width: length, height: other, ..ask.clone() }, 1, "a width", counts);
+            answered(&Ask { width: other, height: length, ..ask }, 2, "a height", counts);
+        }
+    }
+    for (width, height) in [(2, 2), (2, 3), (3, 2), (2048, 2), (2, 2048), (2047, 2), (2, 2047)] {
+        let ask = Ask::sound(chance, width, height);
+        answered(&ask, 0, "an end of the range", counts);
+    }
+}
+
+/// Question 3 alone, of every layout.
+fn layouts(chance: &mut Chance, counts: &mut Counts) {
+    for layout in 0..=255 {
+        let ask = Ask { layout, ..Ask::sound(chance, 5, 4) };
+        answered(&ask, if layout < 4 { 0 } else { 3 }, "every layout", counts);
+    }
+}
+
+/// Questions 6 and 7, each answered no alone: of each buffer, and of two planes whose lengths together would be right.
+fn lengths(chance: &mut Chance, counts: &mut Counts) {
+    for (width, height) in [(2, 2), (3, 2), (2, 3), (7, 5), (16, 16), (17, 3), (64, 2)] {
+        let sound = Ask::sound(chance, width, height);
+        for length in wrong_lengths(width, height) {
+            let ask = Ask { mosaic: chance.samples(length), ..sound.clone() };
+            answered(&ask, 6, "the mosaic's length", counts);
+            for plane in 0..3 {
+                let mut ask = sound.clone();
+                ask.lent[plane] = length;
+                answered(&ask, 7, "a plane's length", counts);
+                ask.lent[(plane + 1) % 3] = (2 * width * height).saturating_sub(length);
+                answered(&ask, 7, "two planes' lengths", counts);
+            }
+            answered(&Ask { lent: [length; 3], ..sound.clone() }, 7, "the three planes' lengths", counts);
+        }
+    }
+}
+
+/// Question 9 alone, at every place: 4,095 is in range, more is not.
+fn samples(chance: &mut Chance, counts: &mut Counts) {
+    for (width, height) in [(2, 2), (3, 2), (2, 3), (7, 5), (16, 8), (33, 2), (2, 35)] {
+        let sound = Ask::sound(chance, width, height);
+        for place in 0..width * height {
+            for (value, number) in [(4095, 0), (4096, 9), (4097, 9), (8191, 9), (32_768, 9), (65_535, 9)] {
+                let mut ask = sound.clone();
+                ask.mosaic[place] = value;
+                answered(&ask, number, &format!("{value} at place {place}"), counts);
+            }
+        }
+        for value in [4096, 32_768, 65_535] {
+            let ask = Ask { mosaic: vec![value; width * height], ..sound.clone() };
+            answered(&ask, 9, "no sample in range", counts);
+        }
+    }
+}
+
+/// Question 9 in the largest frames, at the first, a middle and the last place.
+fn samples_in_large_frames(counts: &mut Counts) {
+    let count = 2048 * 2048;
+    let mut ask = Ask::of(2048, 2048, 0, &vec![4095; count]);
+    for (place, value) in [(0, 65_535), (count / 2 + 77, 4096), (count - 1, 4096)] {
+        ask.mosaic[place] = value;
+        answered(&ask, 9, &format!("{value} at place {place}"), counts);
+        ask.mosaic[place] = 4095;
+    }
+}
+
+/// The questions in their order.
+const QUESTIONS: [u32; 6] = [1, 2, 3, 6, 7, 9];
+
+/// A call of which these questions are answered no.
+fn wrong(chance: &mut Chance, questions: &[u32]) -> Ask {
+    let (width, height) = (chance.between(2, 9) as usize, chance.between(2, 9) as usize);
+    let count = width * height;
+    let mut ask = Ask::sound(chance, width, height);
+    for question in questions {
+        match question {
+            1 => ask.width = chance.one_of(&NO_LENGTH),
+            2 => ask.height = chance.one_of(&NO_LENGTH),
+            3 => ask.layout = chance.between(4, 255) as u8,
+            6 => {
+                let length = chance.one_of(&[count - 1, count + 1, 100]);
+                ask.mosaic = chance.samples(length);
+            }
+            7 => ask.lent[chance.place(3)] = chance.one_of(&[0, count - 1, count + 1]),
+            _ => {
+                let place = chance.place(ask.mosaic.len());
+                ask.mosaic[place] = chance.one_of(&[4096, 32_768, 65_535]);
+            }
+        }
+    }
+    ask
+}
+
+/// Every set of questions answered no at once, so that their order shows.
+fn several_wrongs(chance: &mut Chance, counts: &mut Counts) {
+    for questions in sets(&QUESTIONS) {
+        let number = questions.first().copied().unwrap_or(0);
+        for _ in 0..20 {
+            let ask = wrong(chance, &questions);
+            answered(&ask, number, &format!("{questions:?} answered no"), counts);
+        }
+    }
+}
+
+#[test]
+fn refusals() {
+    let chance = &mut Chance(0xda94_2042_e4dd_58b5);
+    let mut counts = Counts::default();
+    sizes(chance, &mut counts);
+    layouts(chance, &mut counts);
+    lengths(chance, &mut counts);
+    samples(chance, &mut counts);
+    samples_in_large_frames(&mut counts);
+    several_wrongs(chance, &mut counts);
+    counts.assert_complete("estimate", &QUESTIONS);
+}
