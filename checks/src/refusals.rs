@@ -2,6 +2,8 @@
 
 use std::collections::BTreeMap;
 
+use crate::chance::Chance;
+
 /// No width and no height. Some of them would be in range, or give the right product, in fewer bits.
 pub const NO_LENGTH: [usize; 10] =
     [0, 2049, 2050, 4096, 65_536, 65_539, 1 << 32, (1 << 32) + 3, (1 << 63) + 3, usize::MAX];
@@ -36,5 +38,69 @@ impl Counts {
             assert!(count >= 20, "{call}: the number {number} occurs {count} times only");
         }
         assert!(self.0.is_empty(), "{call}: numbers that no question has: {:?}", self.0);
+    }
+}
+
+/// A call that is given a width, a height, a layout and buffers.
+pub trait FrameCall: Clone {
+    const NAME: &'static str;
+    /// Its questions in their order.
+    const QUESTIONS: &'static [u32];
+
+    /// A call of which every question is answered yes.
+    fn sound(chance: &mut Chance, width: usize, height: usize) -> Self;
+
+    /// A call of which these questions are answered no.
+    fn wrong(chance: &mut Chance, questions: &[u32]) -> Self;
+
+    /// The same buffers with another width, height and layout.
+    fn told(self, width: usize, height: usize, layout: u8) -> Self;
+
+    fn layout(&self) -> u8;
+
+    /// Its number, where the library and the reference agree on all that it leaves.
+    fn number(&self, kind: &str) -> u32;
+}
+
+/// Asks, expects this number and counts it.
+pub fn answered<C: FrameCall>(call: &C, number: u32, kind: &str, counts: &mut Counts) {
+    assert_eq!(call.number(kind), number, "{}, {kind}", C::NAME);
+    counts.add(number);
+}
+
+/// Questions 1 and 2, each answered no alone; and the ends of their ranges.
+pub fn sizes<C: FrameCall>(chance: &mut Chance, counts: &mut Counts) {
+    for length in NO_LENGTH.into_iter().chain([1]) {
+        for other in [2, 3] {
+            // as long as they would have to be, where that is not too long, and as far as the product fits
+            let product = length.wrapping_mul(other);
+            let count = if product <= 3 * 4096 { product } else { 6 };
+            let call = C::sound(chance, count, 1);
+            let layout = call.layout();
+            answered(&call.clone().told(length, other, layout), 1, "a width", counts);
+            answered(&call.told(other, length, layout), 2, "a height", counts);
+        }
+    }
+    for (width, height) in [(2, 2), (2, 3), (3, 2), (2048, 2), (2, 2048), (2047, 2), (2, 2047)] {
+        answered(&C::sound(chance, width, height), 0, "an end of the range", counts);
+    }
+}
+
+/// Question 3 alone, of every layout.
+pub fn layouts<C: FrameCall>(chance: &mut Chance, counts: &mut Counts) {
+    for layout in 0..=255 {
+        let call = C::sound(chance, 5, 4).told(5, 4, layout);
+        answered(&call, if layout < 4 { 0 } else { 3 }, "every layout", counts);
+    }
+}
+
+/// Every set of questions answered no at once, so that their order shows.
+pub fn several_wrongs<C: FrameCall>(chance: &mut Chance, counts: &mut Counts) {
+    for questions in sets(C::QUESTIONS) {
+        let number = questions.first().copied().unwrap_or(0);
+        for _ in 0..20 {
+            let call = C::wrong(chance, &questions);
+            answered(&call, number, &format!("{questions:?} answered no"), counts);
+        }
     }
 }

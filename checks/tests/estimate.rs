@@ -5,7 +5,7 @@ use checks::buffers::Buffer;
 use checks::chance::Chance;
 use checks::estimate::estimate;
 use checks::mosaics::{kinds, spike};
-use checks::refusals::{sets, wrong_lengths, Counts, NO_LENGTH};
+use checks::refusals::{answered, layouts, several_wrongs, sizes, wrong_lengths, Counts, FrameCall, NO_LENGTH};
 
 #[path = "../src/library.rs"]
 mod library;
@@ -29,12 +29,6 @@ impl Ask {
     /// With this mosaic, and each plane as long as it has to be.
     fn of(width: usize, height: usize, layout: u8, mosaic: &[u16]) -> Ask {
         Ask { width, height, layout, mosaic: mosaic.to_vec(), lent: [width * height; 3] }
-    }
-
-    /// With a layout and a mosaic by chance, and each plane as long as it has to be.
-    fn sound(chance: &mut Chance, width: usize, height: usize) -> Ask {
-        let layout = chance.between(0, 3) as u8;
-        Ask::of(width, height, layout, &chance.samples(width * height))
     }
 }
 
@@ -197,39 +191,6 @@ fn three_by_three_by_hand() {
     assert_eq!(accepted(&Ask::of(3, 3, 3, &mosaic), "by hand"), [[9; 9], green, red]);
 }
 
-/// Asks, expects this number and counts it.
-fn answered(ask: &Ask, number: u32, kind: &str, counts: &mut Counts) {
-    let (found, _) = compared(ask, kind);
-    assert_eq!(found, number, "estimate of {} by {}, {kind}", ask.width, ask.height);
-    counts.add(number);
-}
-
-/// Questions 1 and 2, each answered no alone; and the ends of their ranges.
-fn sizes(chance: &mut Chance, counts: &mut Counts) {
-    for length in NO_LENGTH.into_iter().chain([1]) {
-        for other in [2, 3] {
-            // as long as they would have to be, where that is not too long, and as far as the product fits
-            let product = length.wrapping_mul(other);
-            let count = if product <= 3 * 4096 { product } else { 6 };
-            let ask = Ask::sound(chance, count, 1);
-            answered(&Ask { width: length, height: other, ..ask.clone() }, 1, "a width", counts);
-            answered(&Ask { width: other, height: length, ..ask }, 2, "a height", counts);
-        }
-    }
-    for (width, height) in [(2, 2), (2, 3), (3, 2), (2048, 2), (2, 2048), (2047, 2), (2, 2047)] {
-        let ask = Ask::sound(chance, width, height);
-        answered(&ask, 0, "an end of the range", counts);
-    }
-}
-
-/// Question 3 alone, of every layout.
-fn layouts(chance: &mut Chance, counts: &mut Counts) {
-    for layout in 0..=255 {
-        let ask = Ask { layout, ..Ask::sound(chance, 5, 4) };
-        answered(&ask, if layout < 4 { 0 } else { 3 }, "every layout", counts);
-    }
-}
-
 /// Questions 6 and 7, each answered no alone: of each buffer, and of two planes whose lengths together would be right.
 fn lengths(chance: &mut Chance, counts: &mut Counts) {
     for (width, height) in [(2, 2), (3, 2), (2, 3), (7, 5), (16, 16), (17, 3), (64, 2)] {
@@ -278,41 +239,48 @@ fn samples_in_large_frames(counts: &mut Counts) {
     }
 }
 
-/// The questions in their order.
-const QUESTIONS: [u32; 6] = [1, 2, 3, 6, 7, 9];
+impl FrameCall for Ask {
+    const NAME: &'static str = "estimate";
+    const QUESTIONS: &'static [u32] = &[1, 2, 3, 6, 7, 9];
 
-/// A call of which these questions are answered no.
-fn wrong(chance: &mut Chance, questions: &[u32]) -> Ask {
-    let (width, height) = (chance.between(2, 9) as usize, chance.between(2, 9) as usize);
-    let count = width * height;
-    let mut ask = Ask::sound(chance, width, height);
-    for question in questions {
-        match question {
-            1 => ask.width = chance.one_of(&NO_LENGTH),
-            2 => ask.height = chance.one_of(&NO_LENGTH),
-            3 => ask.layout = chance.between(4, 255) as u8,
-            6 => {
-                let length = chance.one_of(&[count - 1, count + 1, 100]);
-                ask.mosaic = chance.samples(length);
-            }
-            7 => ask.lent[chance.place(3)] = chance.one_of(&[0, count - 1, count + 1]),
-            _ => {
-                let place = chance.place(ask.mosaic.len());
-                ask.mosaic[place] = chance.one_of(&[4096, 32_768, 65_535]);
-            }
-        }
+    fn sound(chance: &mut Chance, width: usize, height: usize) -> Self {
+        let layout = chance.between(0, 3) as u8;
+        Ask::of(width, height, layout, &chance.samples(width * height))
     }
-    ask
-}
 
-/// Every set of questions answered no at once, so that their order shows.
-fn several_wrongs(chance: &mut Chance, counts: &mut Counts) {
-    for questions in sets(&QUESTIONS) {
-        let number = questions.first().copied().unwrap_or(0);
-        for _ in 0..20 {
-            let ask = wrong(chance, &questions);
-            answered(&ask, number, &format!("{questions:?} answered no"), counts);
+    fn wrong(chance: &mut Chance, questions: &[u32]) -> Self {
+        let (width, height) = (chance.between(2, 9) as usize, chance.between(2, 9) as usize);
+        let count = width * height;
+        let mut ask = Ask::sound(chance, width, height);
+        for question in questions {
+            match question {
+                1 => ask.width = chance.one_of(&NO_LENGTH),
+                2 => ask.height = chance.one_of(&NO_LENGTH),
+                3 => ask.layout = chance.between(4, 255) as u8,
+                6 => {
+                    let length = chance.one_of(&[count - 1, count + 1, 100]);
+                    ask.mosaic = chance.samples(length);
+                }
+                7 => ask.lent[chance.place(3)] = chance.one_of(&[0, count - 1, count + 1]),
+                _ => {
+                    let place = chance.place(ask.mosaic.len());
+                    ask.mosaic[place] = chance.one_of(&[4096, 32_768, 65_535]);
+                }
+            }
         }
+        ask
+    }
+
+    fn told(self, width: usize, height: usize, layout: u8) -> Self {
+        Ask { width, height, layout, ..self }
+    }
+
+    fn layout(&self) -> u8 {
+        self.layout
+    }
+
+    fn number(&self, kind: &str) -> u32 {
+        compared(self, kind).0
     }
 }
 
@@ -320,11 +288,11 @@ fn several_wrongs(chance: &mut Chance, counts: &mut Counts) {
 fn refusals() {
     let chance = &mut Chance(0xda94_2042_e4dd_58b5);
     let mut counts = Counts::default();
-    sizes(chance, &mut counts);
-    layouts(chance, &mut counts);
+    sizes::<Ask>(chance, &mut counts);
+    layouts::<Ask>(chance, &mut counts);
     lengths(chance, &mut counts);
     samples(chance, &mut counts);
     samples_in_large_frames(&mut counts);
-    several_wrongs(chance, &mut counts);
-    counts.assert_complete("estimate", &QUESTIONS);
+    several_wrongs::<Ask>(chance, &mut counts);
+    counts.assert_complete(Ask::NAME, Ask::QUESTIONS);
 }

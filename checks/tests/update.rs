@@ -6,7 +6,7 @@ use checks::buffers::Buffer;
 use checks::chance::Chance;
 use checks::estimate::estimate;
 use checks::mosaics::{filled, kinds, spike};
-use checks::refusals::{sets, wrong_lengths, Counts, NO_LENGTH};
+use checks::refusals::{answered, layouts, several_wrongs, sizes, wrong_lengths, Counts, FrameCall, NO_LENGTH};
 use checks::update::update;
 
 #[path = "../src/library.rs"]
@@ -30,13 +30,6 @@ impl Ask {
     fn of(width: usize, height: usize, layout: u8, mosaic: &[u16], green: &[u16]) -> Ask {
         let (mosaic, green) = (mosaic.to_vec(), green.to_vec());
         Ask { width, height, layout, mosaic, green, work: 8 * width * height }
-    }
-
-    /// With a layout, a mosaic and a green by chance, and a work buffer as long as it has to be.
-    fn sound(chance: &mut Chance, width: usize, height: usize) -> Ask {
-        let layout = chance.between(0, 3) as u8;
-        let (mosaic, green) = (chance.samples(width * height), chance.samples(width * height));
-        Ask::of(width, height, layout, &mosaic, &green)
     }
 }
 
@@ -207,39 +200,6 @@ fn the_detail_of_case_d() {
     }
 }
 
-/// Asks, expects this number and counts it.
-fn answered(ask: &Ask, number: u32, kind: &str, counts: &mut Counts) {
-    let (found, _) = compared(ask, kind);
-    assert_eq!(found, number, "update of {} by {}, {kind}", ask.width, ask.height);
-    counts.add(number);
-}
-
-/// Questions 1 and 2, each answered no alone; and the ends of their ranges.
-fn sizes(chance: &mut Chance, counts: &mut Counts) {
-    for length in NO_LENGTH.into_iter().chain([1]) {
-        for other in [2, 3] {
-            // as long as they would have to be, where that is not too long, and as far as the product fits
-            let product = length.wrapping_mul(other);
-            let count = if product <= 3 * 4096 { product } else { 6 };
-            let ask = Ask::sound(chance, count, 1);
-            answered(&Ask { width: length, height: other, ..ask.clone() }, 1, "a width", counts);
-            answered(&Ask { width: other, height: length, ..ask }, 2, "a height", counts);
-        }
-    }
-    for (width, height) in [(2, 2), (2, 3), (3, 2), (2048, 2), (2, 2048), (2047, 2), (2, 2047)] {
-        let ask = Ask::sound(chance, width, height);
-        answered(&ask, 0, "an end of the range", counts);
-    }
-}
-
-/// Question 3 alone, of every layout.
-fn layouts(chance: &mut Chance, counts: &mut Counts) {
-    for layout in 0..=255 {
-        let ask = Ask { layout, ..Ask::sound(chance, 5, 4) };
-        answered(&ask, if layout < 4 { 0 } else { 3 }, "every layout", counts);
-    }
-}
-
 /// Questions 6 and 8, each answered no alone: of each buffer, and of two given ones whose lengths together would be right.
 /// Then work buffers that suffice.
 fn lengths(chance: &mut Chance, counts: &mut Counts) {
@@ -312,46 +272,54 @@ fn large_frames_refused(counts: &mut Counts) {
     answered(&Ask { work: 8 * count - 1, ..ask }, 8, "a work buffer of one less", counts);
 }
 
-/// The questions in their order.
-const QUESTIONS: [u32; 7] = [1, 2, 3, 6, 8, 9, 10];
+impl FrameCall for Ask {
+    const NAME: &'static str = "update";
+    const QUESTIONS: &'static [u32] = &[1, 2, 3, 6, 8, 9, 10];
 
-/// A call of which these questions are answered no.
-fn wrong(chance: &mut Chance, questions: &[u32]) -> Ask {
-    let (width, height) = (chance.between(2, 9) as usize, chance.between(2, 9) as usize);
-    let count = width * height;
-    let mut ask = Ask::sound(chance, width, height);
-    for question in questions {
-        match question {
-            1 => ask.width = chance.one_of(&NO_LENGTH),
-            2 => ask.height = chance.one_of(&NO_LENGTH),
-            3 => ask.layout = chance.between(4, 255) as u8,
-            6 => {
-                let length = chance.one_of(&[count - 1, count + 1, 100]);
-                let buffer = if chance.between(0, 1) == 0 { &mut ask.mosaic } else { &mut ask.green };
-                *buffer = chance.samples(length);
-            }
-            8 => ask.work = chance.one_of(&[0, count, 8 * count - 1]),
-            9 => {
-                let place = chance.place(ask.mosaic.len());
-                ask.mosaic[place] = chance.one_of(&[4096, 32_768, 65_535]);
-            }
-            _ => {
-                let place = chance.place(ask.green.len());
-                ask.green[place] = chance.one_of(&[4096, 32_768, 65_535]);
-            }
-        }
+    fn sound(chance: &mut Chance, width: usize, height: usize) -> Self {
+        let layout = chance.between(0, 3) as u8;
+        let (mosaic, green) = (chance.samples(width * height), chance.samples(width * height));
+        Ask::of(width, height, layout, &mosaic, &green)
     }
-    ask
-}
 
-/// Every set of questions answered no at once, so that their order shows.
-fn several_wrongs(chance: &mut Chance, counts: &mut Counts) {
-    for questions in sets(&QUESTIONS) {
-        let number = questions.first().copied().unwrap_or(0);
-        for _ in 0..20 {
-            let ask = wrong(chance, &questions);
-            answered(&ask, number, &format!("{questions:?} answered no"), counts);
+    fn wrong(chance: &mut Chance, questions: &[u32]) -> Self {
+        let (width, height) = (chance.between(2, 9) as usize, chance.between(2, 9) as usize);
+        let count = width * height;
+        let mut ask = Ask::sound(chance, width, height);
+        for question in questions {
+            match question {
+                1 => ask.width = chance.one_of(&NO_LENGTH),
+                2 => ask.height = chance.one_of(&NO_LENGTH),
+                3 => ask.layout = chance.between(4, 255) as u8,
+                6 => {
+                    let length = chance.one_of(&[count - 1, count + 1, 100]);
+                    let buffer = if chance.between(0, 1) == 0 { &mut ask.mosaic } else { &mut ask.green };
+                    *buffer = chance.samples(length);
+                }
+                8 => ask.work = chance.one_of(&[0, count, 8 * count - 1]),
+                9 => {
+                    let place = chance.place(ask.mosaic.len());
+                    ask.mosaic[place] = chance.one_of(&[4096, 32_768, 65_535]);
+                }
+                _ => {
+                    let place = chance.place(ask.green.len());
+                    ask.green[place] = chance.one_of(&[4096, 32_768, 65_535]);
+                }
+            }
         }
+        ask
+    }
+
+    fn told(self, width: usize, height: usize, layout: u8) -> Self {
+        Ask { width, height, layout, ..self }
+    }
+
+    fn layout(&self) -> u8 {
+        self.layout
+    }
+
+    fn number(&self, kind: &str) -> u32 {
+        compared(self, kind).0
     }
 }
 
@@ -359,11 +327,11 @@ fn several_wrongs(chance: &mut Chance, counts: &mut Counts) {
 fn refusals() {
     let chance = &mut Chance(0xda94_2042_e4dd_58b5);
     let mut counts = Counts::default();
-    sizes(chance, &mut counts);
-    layouts(chance, &mut counts);
+    sizes::<Ask>(chance, &mut counts);
+    layouts::<Ask>(chance, &mut counts);
     lengths(chance, &mut counts);
     samples(chance, &mut counts);
     large_frames_refused(&mut counts);
-    several_wrongs(chance, &mut counts);
-    counts.assert_complete("update", &QUESTIONS);
+    several_wrongs::<Ask>(chance, &mut counts);
+    counts.assert_complete(Ask::NAME, Ask::QUESTIONS);
 }

@@ -2,18 +2,11 @@
 use mathlib.Core.Path.{_≡_}
 use mathlib.Core.List.{List}
 use Prim.Native.Nat.{ℕ, _*_, _≤_, _<_}
-use lib.Dec.{T}
 use lib.IntN.{ℤ, pos, natAbs}
-use lib.Signed.{nonNeg}
 use lib.ListN.{length}
 use Rattle.turns.specs.Frames.{plane-of}
 use Rattle.filters.specs.Bank.{Bands}
 use Rattle.lines.specs.Lines.{value}
-
--- how far from 0 values may be, as a number of the machine
-pub record Reach (most : ℤ) : Type 0 where
-  pub sign : T (nonNeg most)
-  pub small : natAbs most ≤ 1073741824
 
 -- a width and a height that the bank takes
 pub record Sizes (w h : ℕ) : Type 0 where

@@ -9,8 +9,8 @@ ghost use lib.ListN.{length};
 ghost use Rattle.integers.specs.Lists.{overwrite};
 ghost use Rattle.questions.specs.Questions.{ask, all-at-most};
 ghost use Rattle.turns.specs.Frames.{listing};
-ghost use Rattle.filters.specs.Bank.{split as split-plane, join as join-bands};
-ghost use Rattle.bank.specs.Planes.{Reach, Sizes, Plane, plane, bands-of};
+ghost use Rattle.filters.specs.Bank.{Distance, split as split-plane, join as join-bands};
+ghost use Rattle.bank.specs.Planes.{Sizes, Plane, plane, bands-of};
 ghost use Rattle.bank.specs.Calls.{bands, to-split, to-join, values-questions, split-questions, join-questions, number-of-answer, SplitResult, JoinResult};
 
 // What split and join answer.
@@ -33,7 +33,7 @@ impl BankAnswer {
 
 // 1 where a value is farther from 0 than `most`, else what was found before.
 fn marked(most: i32, value: i32, found: u32) -> u32
-    requires { ⌜ Reach most ⌝ }
+    requires { ⌜ Distance most ⌝ }
     ensures { λ r. ⌜ r ≡ cond (leb (natAbs value) (natAbs most)) found 1 ⌝ }
 {
     if value < 0 - most {
@@ -48,7 +48,7 @@ fn marked(most: i32, value: i32, found: u32) -> u32
 // Question 15: whether no value is farther from 0 than `most`. All are looked at, even after one that is: only so is this a loop
 // over vectors.
 fn values_within(most: i32, values: &[i32]) -> bool
-    requires { ⌜ Reach most ⌝ }
+    requires { ⌜ Distance most ⌝ }
     ensures { λ r. ⌜ r ≡ all-at-most (natAbs most) (map natAbs (now (values .entry))) ⌝ }
 {
     let mut found = 0;
@@ -269,7 +269,7 @@ fn join_rows(
 
 // Question 15 of the four bands: 15 where a value is farther from 0 than `most`, else 0.
 fn bands_refusal(most: i32, band1: &[i32], band2: &[i32], band3: &[i32], band4: &[i32]) -> u32
-    requires { ⌜ Reach most ⌝ }
+    requires { ⌜ Distance most ⌝ }
     ensures { λ r. ⌜ r ≡ ask (values-questions (natAbs most) (bands (now (band1 .entry)) (now (band2 .entry)) (now (band3 .entry)) (now (band4 .entry)))) ⌝ }
 {
     if !values_within(most, band1) {

@@ -1,20 +1,13 @@
 -- The sums of the projection, along lines that stand in lists: what of a difference's details lies outside a limit, and what those
 -- parts are joined to. Assumes nothing.
 use mathlib.Core.List.{List}
-use Prim.Native.Nat.{ℕ, _+_, _*_, _≤_, _<_}
-use lib.Dec.{T}
-use lib.IntN.{ℤ, pos, negℤ, natAbs, _+ℤ_, _-ℤ_, _*ℤ_}
-use lib.ListN.{getD, length}
-use lib.Signed.{nonNeg}
-use Rattle.integers.specs.Numbers.{rounded, clamp}
+use Prim.Native.Nat.{ℕ, _+_, _*_}
+use lib.IntN.{ℤ, pos, negℤ, _+ℤ_, _-ℤ_, _*ℤ_}
+use lib.ListN.{getD}
+use Rattle.integers.specs.Numbers.{clamp}
 use Rattle.border.specs.Border.{reflect}
-use Rattle.filters.specs.Bank.{Taps, weighted, along, low-split, high-split, high-join}
+use Rattle.filters.specs.Bank.{Taps, weighted, along, low-split, high-split, high-join, rescaled}
 use Rattle.lines.specs.Lines.{value, Run, three}
-
--- a limit, as a number of the machine
-pub record Limit (limit : ℤ) : Type 0 where
-  pub sign : T (nonNeg limit)
-  pub small : natAbs limit ≤ 1073741824
 
 -- the part of z outside −limit..limit
 unfoldable pub excess : ℤ → ℤ → ℤ
@@ -27,10 +20,6 @@ guide-value guide from step k = pos (getD guide (from + k * step) 0)
 
 unfoldable pub difference-line : List ℤ → ℕ → List ℕ → ℕ → ℕ → ℕ → ℤ
 difference-line own at guide from step k = value own (at + k) -ℤ guide-value guide from step k
-
--- n samples from `from` on, `step` apart, are in the list
-pub record Samples (guide : List ℕ) (from step n : ℕ) : Type 0 where
-  pub inside : (k : ℕ) → k < n → from + k * step < length guide
 
 -- ---- along a padded line of n
 -- its places, the ones after them, and the ones after those
@@ -86,4 +75,4 @@ joined-plus parts minus plus k = crossed minus plus 0 1 2 3 4 k +ℤ crossed par
 
 -- ---- 1,024 times a value, less a joined sum, brought back
 unfoldable pub settled : ℤ → ℤ → ℤ → ℤ → ℤ
-settled low high x sum = clamp low high (rounded 1024 (pos 1024 *ℤ x -ℤ sum))
+settled low high x sum = rescaled low high (pos 1024 *ℤ x -ℤ sum)

@@ -4,9 +4,10 @@ ghost use Prim.Native.Nat.{_+_, _≤_, _<_};
 ghost use lib.IntN.{natAbs, pos, _+ℤ_, _-ℤ_};
 ghost use lib.ListN.{length};
 ghost use Rattle.integers.specs.Lists.{overwrite};
-ghost use Rattle.filters.specs.Bank.{low-split, high-split, high-join, along};
+ghost use Rattle.filters.specs.Bank.{Distance, low-split, high-split, high-join, along};
+ghost use Rattle.turns.specs.Filling.{InRow};
 ghost use Rattle.lines.specs.Lines.{value, Run, padded};
-ghost use Rattle.details.specs.Details.{Limit, excess as outside, difference-line, Samples, Triple, outer, outer-minus, outer-plus, from-place, outer-part, crossed, Crossing, crossed-along, joined-minus, joined-plus, settled};
+ghost use Rattle.details.specs.Details.{excess as outside, difference-line, Triple, outer, outer-minus, outer-plus, from-place, outer-part, crossed, Crossing, crossed-along, joined-minus, joined-plus, settled};
 
 // A value less the guide's sample.
 fn difference(x: i32, guide: u16) -> i32
@@ -27,7 +28,7 @@ pub fn difference_line(
     out: &mut [i32],
     to: usize,
 )
-    requires { ⌜ Run 1073741824 (now own) at n × Samples (now guide) from step n × (to + n ≤ length (now out)) ⌝ }
+    requires { ⌜ Run 1073741824 (now own) at n × InRow (now guide) n from step × (to + n ≤ length (now out)) ⌝ }
     ensures { λ _. ⌜ now (out .exit) ≡ overwrite (now (out .entry)) to n (difference-line (now (own .entry)) at (now (guide .entry)) from step) ⌝ }
 {
     let mut k = 0;
@@ -39,7 +40,7 @@ pub fn difference_line(
 
 // The part of z outside −limit..limit.
 fn excess(limit: i32, z: i32) -> i32
-    requires { ⌜ Limit limit × (natAbs z ≤ 536870912) ⌝ }
+    requires { ⌜ Distance limit × (natAbs z ≤ 536870912) ⌝ }
     ensures { λ r. ⌜ r ≡ outside limit z ⌝ }
 {
     if z < 0 - limit {
@@ -53,7 +54,7 @@ fn excess(limit: i32, z: i32) -> i32
 
 // What of the high split filter's value lies outside the limit, at place k along a padded line of n.
 fn outer_high(line: &[i32], limit: i32, n: usize, k: usize) -> i32
-    requires { ⌜ Limit limit × Triple 134217728 (now line) n × (k < n) ⌝ }
+    requires { ⌜ Distance limit × Triple 134217728 (now line) n × (k < n) ⌝ }
     ensures { λ r. ⌜ r ≡ outer high-split limit (now (line .entry)) k ⌝ }
 {
     excess(
@@ -64,7 +65,7 @@ fn outer_high(line: &[i32], limit: i32, n: usize, k: usize) -> i32
 
 // And of the low one's.
 fn outer_low(line: &[i32], limit: i32, n: usize, k: usize) -> i32
-    requires { ⌜ Limit limit × Triple 134217728 (now line) n × (k < n) ⌝ }
+    requires { ⌜ Distance limit × Triple 134217728 (now line) n × (k < n) ⌝ }
     ensures { λ r. ⌜ r ≡ outer low-split limit (now (line .entry)) k ⌝ }
 {
     excess(limit, filters::low_split(line[k], line[1 + k], line[2 + k]))
@@ -72,7 +73,7 @@ fn outer_low(line: &[i32], limit: i32, n: usize, k: usize) -> i32
 
 // Along a padded line of n that is low along the columns, what of band 2 lies outside the limit.
 fn outer_line(line: &[i32], limit: i32, n: usize, out: &mut [i32], at: usize)
-    requires { ⌜ Limit limit × Triple 134217728 (now line) n × (at + n ≤ length (now out)) ⌝ }
+    requires { ⌜ Distance limit × Triple 134217728 (now line) n × (at + n ≤ length (now out)) ⌝ }
     ensures { λ _. ⌜ now (out .exit) ≡ overwrite (now (out .entry)) at n (outer high-split limit (now (line .entry))) ⌝ }
 {
     let mut k = 0;
@@ -84,7 +85,7 @@ fn outer_line(line: &[i32], limit: i32, n: usize, out: &mut [i32], at: usize)
 
 // Along a padded line of n that is high along the columns, what of bands 3 and 4 lies outside: their difference and their sum.
 fn outer_lines(line: &[i32], limit: i32, n: usize, minus: &mut [i32], plus: &mut [i32], at: usize)
-    requires { ⌜ Limit limit × Triple 134217728 (now line) n × (at + n ≤ length (now minus)) × (at + n ≤ length (now plus)) ⌝ }
+    requires { ⌜ Distance limit × Triple 134217728 (now line) n × (at + n ≤ length (now minus)) × (at + n ≤ length (now plus)) ⌝ }
     ensures { λ _. ⌜ now (minus .exit) ≡ overwrite (now (minus .entry)) at n (outer-minus limit (now (line .entry))) ⌝ }
     ensures { λ _. ⌜ now (plus .exit) ≡ overwrite (now (plus .entry)) at n (outer-plus limit (now (line .entry))) ⌝ }
 {
@@ -110,7 +111,7 @@ pub fn outer_along(
     plus: &mut [i32],
 )
     requires { ⌜ (1 ≤ n) × (n ≤ 2048) × (n + 2 ≤ length (now low)) × (n + 2 ≤ length (now high)) × Run 134217728 (now low) 1 n × Run 134217728 (now high) 1 n ⌝ }
-    requires { ⌜ Limit limit × (2 + n ≤ length (now parts)) × (2 + n ≤ length (now minus)) × (2 + n ≤ length (now plus)) ⌝ }
+    requires { ⌜ Distance limit × (2 + n ≤ length (now parts)) × (2 + n ≤ length (now minus)) × (2 + n ≤ length (now plus)) ⌝ }
     ensures { λ _. ⌜ (now (low .exit) ≡ padded n 1 (now (low .entry))) × (now (high .exit) ≡ padded n 1 (now (high .entry))) ⌝ }
     ensures { λ _. ⌜ now (parts .exit) ≡ overwrite (now (parts .entry)) 2 n (outer-part high-split limit n (from-place 1 (now (low .entry)))) ⌝ }
     ensures { λ _. ⌜ now (minus .exit) ≡ overwrite (now (minus .entry)) 2 n (λ k. outer-part high-split limit n (from-place 1 (now (high .entry))) k -ℤ outer-part low-split limit n (from-place 1 (now (high .entry))) k) ⌝ }

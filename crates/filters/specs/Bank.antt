@@ -1,7 +1,9 @@
 -- Document 01, "Filter bank", on planes. A plane gives the value at a row and a column; its width and height stand beside it.
 -- Assumes nothing.
 use Prim.Native.Nat.{ℕ, _*_, _≤_}
+use lib.Dec.{T}
 use lib.IntN.{ℤ, pos, negsuc, natAbs, _+ℤ_, _-ℤ_, _*ℤ_}
+use lib.Signed.{nonNeg}
 use Rattle.integers.specs.Numbers.{rounded, clamp}
 use Rattle.border.specs.Border.{reflect}
 
@@ -77,10 +79,20 @@ join d w h bands r c =
     +ℤ filtered low-join high-join d w h (λ i j. bands i j .band3) r c
     +ℤ filtered high-join high-join d w h (λ i j. bands i j .band4) r c
 
--- ---- bringing a sum back: (s + 512) whole-divided by 1,024, then clipped to 0..top
+-- ---- bringing a sum back: (s + 512) whole-divided by 1,024, then clipped
+-- to low..high
+abbrev pub rescaled : ℤ → ℤ → ℤ → ℤ
+rescaled low high s = clamp low high (rounded 1024 s)
+
+-- to 0..top, as a sample
 unfoldable pub brought-back : ℕ → ℤ → ℕ
-brought-back top s = natAbs (clamp (pos 0) (pos top) (rounded 1024 s))
+brought-back top s = natAbs (rescaled (pos 0) (pos top) s)
 
 -- ---- what the filters in code ask of a value: no partial sum of any of the four then leaves 32 bits
 abbrev pub Small : ℤ → Type 0
 Small z = natAbs z ≤ 134217728
+
+-- a distance from 0 that code compares with, as a number of the machine
+pub record Distance (most : ℤ) : Type 0 where
+  pub sign : T (nonNeg most)
+  pub small : natAbs most ≤ 1073741824

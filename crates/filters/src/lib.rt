@@ -1,8 +1,8 @@
 // Inner: the filters of document 01's bank, one number at a time. LLVM inlines each, so that the loops over them are uniform.
 ghost use mathlib.Core.Path.{_≡_};
 ghost use lib.IntN.{pos};
-ghost use Rattle.integers.specs.Numbers.{whole-divided, rounded, clamp};
-ghost use Rattle.filters.specs.Bank.{Small, low-split, high-split, low-join, high-join, weighted, brought-back};
+ghost use Rattle.integers.specs.Numbers.{whole-divided, rounded};
+ghost use Rattle.filters.specs.Bank.{Small, low-split, high-split, low-join, high-join, weighted, rescaled, brought-back};
 
 // 1 2 1
 pub fn low_split(a: i32, b: i32, c: i32) -> i32
@@ -60,7 +60,7 @@ pub fn rounded_quotient(sum: i32) -> i32
 
 // A sum brought back to low..high: the rounded quotient, clipped.
 pub fn rescale(sum: i32, low: i32, high: i32) -> i32
-    ensures { λ r. ⌜ r ≡ clamp low high (rounded 1024 sum) ⌝ }
+    ensures { λ r. ⌜ r ≡ rescaled low high sum ⌝ }
 {
     let quotient = rounded_quotient(sum);
     if quotient < low {

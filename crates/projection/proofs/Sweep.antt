@@ -19,9 +19,10 @@ use Rattle.turns.proofs.Frames.{row-room, place-inside, row-inside, column-insi
 use Rattle.filters.specs.Bank.{Taps, weighted, tap, along, along-columns, low-split, high-split, high-join}
 use Rattle.filters.proofs.Taps.{weighted-three}
 use Rattle.filters.proofs.Ranges.{gain, along-range}
+use Rattle.turns.specs.Filling.{InRow}
 use Rattle.lines.specs.Lines.{value, Run, three}
 use Rattle.lines.proofs.Lines.{outside}
-use Rattle.details.specs.Details.{difference-line, guide-value, Samples, crossed, crossed-along, settled}
+use Rattle.details.specs.Details.{difference-line, guide-value, crossed, crossed-along, settled}
 use Rattle.projection.specs.Projection.{projected}
 use Rattle.projection.specs.Fast.{difference}
 use Rattle.projection.specs.Planes.{own-plane, guide-plane, reach, Projectable}
@@ -129,7 +130,7 @@ module _ (limit low high : ℤ) (own : List ℤ) (at : ℕ) (guide : List ℕ) (
         small = λ c k. subst (λ (z : ℤ). natAbs z ≤ reach) (sym (untouched r c i j)) (p .small (r * w + c) (place-inside j k));
       }
 
-      pub guide-row : (r : ℕ) → r < h → Samples guide (from + r * down) across w
+      pub guide-row : (r : ℕ) → r < h → InRow guide w (from + r * down) across
       guide-row r j = record { inside = λ c k. p .guide-inside r c j k }
 
       -- so its differences are the plane's
@@ -157,7 +158,7 @@ module _ (limit low high : ℤ) (own : List ℤ) (at : ℕ) (guide : List ℕ) (
       whole : own ≡ with-rows (0 - 2)
       whole = overwrite-none own at _ ∙ ap (λ (n : ℕ). overwrite own at n (λ k. settled-plane (k / w) (k % w))) (sym (zero-mul w))
 
-      pub first-rows : Run reach own (at + 0 * w) w × Samples guide (from + 0 * down) across w
+      pub first-rows : Run reach own (at + 0 * w) w × InRow guide w (from + 0 * down) across
       first-rows = (own-row (omega arith) whole 0 (omega arith) (p .height-from), guide-row (omega arith) whole 0 (p .height-from))
 
       -- with row 0
@@ -179,9 +180,9 @@ module _ (limit low high : ℤ) (own : List ℤ) (at : ℕ) (guide : List ℕ) (
 
         -- code's number x of that row
         module _ {x : ℕ} (is-x : x ≡ next) where
-          pub next-rows : Run reach now (at + x * w) w × Samples guide (from + x * down) across w
+          pub next-rows : Run reach now (at + x * w) w × InRow guide w (from + x * down) across
           next-rows =
-              subst (λ (q : ℕ). Run reach now (at + q * w) w × Samples guide (from + q * down) across w) (sym is-x)
+              subst (λ (q : ℕ). Run reach now (at + q * w) w × InRow guide w (from + q * down) across) (sym is-x)
               (own-row (omega arith) (s .plane) next (omega (arith, next-near .0)) (next-near .2), guide-row (omega arith) (s .plane) next (next-near .2))
 
         module _ (room : 3 * w ≤ length ring) {x : ℕ} (is-x : x ≡ next) {ring' : List ℤ} (laid : ring' ≡ overwrite ring (slot 3 w x) w (difference-line now (at + x * w) guide (from + x * down) across)) where

@@ -2,8 +2,8 @@
 -- update" is the same with the limit 0 (law `mixed-projected` of crate `update`). The other plane is called the guide. Assumes nothing.
 use Prim.Native.Nat.{ℕ}
 use lib.IntN.{ℤ, _+ℤ_, _-ℤ_}
-use Rattle.integers.specs.Numbers.{rounded, clamp}
-use Rattle.filters.specs.Bank.{Bands, split, join}
+use Rattle.integers.specs.Numbers.{clamp}
+use Rattle.filters.specs.Bank.{Bands, split, join, rescaled}
 
 -- a value held within the guide's value ± limit
 unfoldable pub held : ℤ → ℤ → ℤ → ℤ
@@ -24,4 +24,4 @@ held-sum limit d w h guide own = join d w h (λ i j. hold-details limit (split d
 
 -- brought back, with the clip's ends as numbers
 unfoldable pub projected : ℤ → ℤ → ℤ → ℕ → ℕ → (ℕ → ℕ → ℤ) → (ℕ → ℕ → ℤ) → ℕ → ℕ → ℤ
-projected limit low high w h guide own r c = clamp low high (rounded 1024 (held-sum limit 1 w h guide own r c))
+projected limit low high w h guide own r c = rescaled low high (held-sum limit 1 w h guide own r c)

@@ -7,7 +7,7 @@ use Rattle.border.specs.Border.{reflect}
 use Rattle.filters.specs.Bank.{Taps, along, low-split, high-split, low-join, high-join}
 use Rattle.lines.specs.Lines.{Run, three}
 use Rattle.details.specs.Details.{outer-part, Crossing, crossed, settled}
-use Rattle.projection.specs.Planes.{own-plane}
+use Rattle.projection.specs.Planes.{own-plane, reach}
 
 -- where row q of width w begins in a ring of n slots; and where the row begins that an index means in a plane of height h
 abbrev pub slot : ℕ → ℕ → ℕ → ℕ
@@ -60,6 +60,6 @@ pub record Settleable (own : List ℤ) (at : ℕ) (apart together : List ℤ) (w
   pub from : f ≤ n
   pub to : n ≤ h
   pub inside : at + n * w ≤ length own
-  pub rows : (r : ℕ) → f ≤ r → r < n → Run 131070 own (at + r * w) w
+  pub rows : (r : ℕ) → f ≤ r → r < n → Run reach own (at + r * w) w
   pub rings : (r : ℕ) → f ≤ r → r < n
       → Crossing 134217728 apart together (slot-of 5 w h (pos r -ℤ pos 2)) (slot-of 5 w h (pos r -ℤ pos 1)) (slot 5 w r) (slot-of 5 w h (pos r +ℤ pos 1)) (slot-of 5 w h (pos r +ℤ pos 2)) w

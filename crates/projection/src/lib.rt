@@ -5,9 +5,10 @@ ghost use Prim.Native.Nat.{_+_, _*_, _-_, _/_, _%_, _≤_, _<_};
 ghost use lib.IntN.{pos, _+ℤ_, _-ℤ_};
 ghost use lib.ListN.{length};
 ghost use Rattle.integers.specs.Lists.{overwrite};
-ghost use Rattle.filters.specs.Bank.{low-split, high-split};
+ghost use Rattle.filters.specs.Bank.{Distance, low-split, high-split};
+ghost use Rattle.turns.specs.Filling.{InRow};
 ghost use Rattle.lines.specs.Lines.{Run};
-ghost use Rattle.details.specs.Details.{Limit, difference-line, Samples};
+ghost use Rattle.details.specs.Details.{difference-line};
 ghost use Rattle.projection.specs.Projection.{projected};
 ghost use Rattle.projection.specs.Planes.{own-plane, guide-plane, reach, Projectable};
 ghost use Rattle.projection.specs.Rows.{slot, slot-of, apart-row, together-row, ring-line, RingRows, settled-row, Settleable};
@@ -40,7 +41,7 @@ fn difference_row(
     r: usize,
     ring: &mut [i32],
 )
-    requires { ⌜ Run reach (now own) (at + r * width) width × Samples (now guide) (from + r * down) across width ⌝ }
+    requires { ⌜ Run reach (now own) (at + r * width) width × InRow (now guide) width (from + r * down) across ⌝ }
     requires { ⌜ (1 ≤ width) × (width ≤ 2048) × (3 * width ≤ length (now ring)) ⌝ }
     ensures { λ _. ⌜ now (ring .exit) ≡ overwrite (now (ring .entry)) (slot 3 width r) width (difference-line (now (own .entry)) (at + r * width) (now (guide .entry)) (from + r * down) across) ⌝ }
 {
@@ -73,7 +74,7 @@ fn parts_row(
     apart: &mut [i32],
     together: &mut [i32],
 )
-    requires { ⌜ (1 ≤ width) × (width ≤ 2048) × (1 ≤ height) × (height ≤ 2048) × (r < height) × Limit limit × RingRows reach (now differences) width height r ⌝ }
+    requires { ⌜ (1 ≤ width) × (width ≤ 2048) × (1 ≤ height) × (height ≤ 2048) × (r < height) × Distance limit × RingRows reach (now differences) width height r ⌝ }
     requires { ⌜ (width + 2 ≤ length (now low)) × (width + 2 ≤ length (now high)) × (width + 4 ≤ length (now parts)) × (width + 4 ≤ length (now minus)) × (width + 4 ≤ length (now plus)) ⌝ }
     requires { ⌜ (5 * width ≤ length (now apart)) × (5 * width ≤ length (now together)) ⌝ }
     ensures { λ _. ⌜ now (apart .exit) ≡ overwrite (now (apart .entry)) (slot 5 width r) width (apart-row limit width (ring-line low-split (now (differences .entry)) width height r) (ring-line high-split (now (differences .entry)) width height r)) ⌝ }
@@ -145,7 +146,7 @@ fn project_rows(
     apart: &mut [i32],
     together: &mut [i32],
 )
-    requires { ⌜ Limit limit × Projectable (now own) at (now guide) from down across width height ⌝ }
+    requires { ⌜ Distance limit × Projectable (now own) at (now guide) from down across width height ⌝ }
     requires { ⌜ (3 * width ≤ length (now differences)) × (width + 2 ≤ length (now line1)) × (width + 2 ≤ length (now line2)) × (width + 4 ≤ length (now parts)) × (width + 4 ≤ length (now minus)) × (width + 4 ≤ length (now plus)) ⌝ }
     requires { ⌜ (5 * width ≤ length (now apart)) × (5 * width ≤ length (now together)) ⌝ }
     ensures { λ _. ⌜ now (own .exit) ≡ overwrite (now (own .entry)) at (width * height) (λ k. projected limit low high width height (guide-plane (now (guide .entry)) from down across) (own-plane (now (own .entry)) at width) (k / width) (k % width)) ⌝ }
@@ -212,7 +213,7 @@ pub fn project(
     low: i32,
     high: i32,
 )
-    requires { ⌜ Limit limit × Projectable (now own) at (now guide) from down across width height ⌝ }
+    requires { ⌜ Distance limit × Projectable (now own) at (now guide) from down across width height ⌝ }
     ensures { λ _. ⌜ now (own .exit) ≡ overwrite (now (own .entry)) at (width * height) (λ k. projected limit low high width height (guide-plane (now (guide .entry)) from down across) (own-plane (now (own .entry)) at width) (k / width) (k % width)) ⌝ }
 {
     let mut differences = [0i32; 6144];

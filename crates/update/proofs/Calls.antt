@@ -1,35 +1,29 @@
 -- The laws of the update call: what an accepted call knows, and what it leaves. Assumes nothing.
 use mathlib.Core.Path.{_≡_, refl, _∙_, ap}
-use mathlib.Core.List.{List, [], _∷_}
+use mathlib.Core.List.{List}
 use Prim.Native.Nat.{ℕ, _*_, _-_, _≤_, _<_}
 use native.Mathlib.Omega.{arith}
-use lib.Dec.{eqb, leb}
 use lib.IntN.{ℤ, pos}
 use lib.ListN.{length}
 use borrow.Author.Tests.{eqb-true, leb-true}
 use Rattle.integers.proofs.Lists.{length-overwrite, overwrite-again}
-use Rattle.questions.specs.Questions.{Question, question, ceiling, ask, all-at-most, shape-questions, samples-question}
+use Rattle.questions.specs.Questions.{ceiling, ask, shape-questions}
 use Rattle.questions.proofs.Asking.{all-yes, all-yes-split, shape-is}
 use Rattle.questions.proofs.Answering.{answer-no, answer-yes, left-no, left-yes}
 use Rattle.turns.specs.Layout.{red-row, red-column}
 use Rattle.turns.specs.Frames.{Frame, frame, listing, plane-of}
 use Rattle.turns.proofs.Pictures.{row-lt}
 use Rattle.update.specs.Update.{places, put-mixed, update}
-use Rattle.update.specs.Calls.{update-questions, number-of-answer, update-list, zeroed, UpdateResult}
+use Rattle.update.specs.Calls.{updating-questions, update-questions, number-of-answer, update-list, zeroed, UpdateResult}
 use Rattle.update.specs.Places.{Updatable, with-mixed}
 use Rattle.update.specs.declared.UpdateAnswer.the-variants.{Accepted, Refused}
 use Rattle.update.proofs.Places.{few-places, second-colour}
-
--- 6, 8, 9 and 10, where a plane has `count` numbers
-abbrev pub plane-questions : ℕ → List ℕ → List ℕ → ℕ → List Question
-plane-questions count mosaic green room =
-    question 6 (eqb (length mosaic) count) ∷ question 6 (eqb (length green) count) ∷ question 8 (leb (8 * count) room) ∷ samples-question ceiling mosaic ∷ question 10 (all-at-most ceiling green) ∷ []
 
 -- ---- what an accepted call knows
 pub updatable : (f : Frame) (green : List ℕ) (room n : ℕ) → n ≡ ask (update-questions f green room) → n ≡ 0 → Updatable (f .width) (f .height) (f .samples) green room
 updatable f green room n e z =
     let count = f .width * f .height in
-    let y = all-yes-split (shape-questions (f .width) (f .height) (f .layout)) (plane-questions count (f .samples) green room) (all-yes (update-questions f green room) tt n e z) in
+    let y = all-yes-split (shape-questions (f .width) (f .height) (f .layout)) (updating-questions count (f .samples) green room) (all-yes (update-questions f green room) tt n e z) in
     let s = shape-is (f .width) (f .height) (f .layout) (y .0) in
     record {
       width-from = s .width-from;

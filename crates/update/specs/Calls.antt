@@ -13,12 +13,15 @@ use Rattle.update.specs.Update.{update}
 use Rattle.update.specs.declared.UpdateAnswer.{UpdateAnswer}
 use Rattle.update.specs.declared.UpdateAnswer.the-variants as update-answer
 
--- ---- the questions, in document 01's order: 1, 2, 3, 6 of mosaic and green, 8, 9, 10 of green
+-- ---- the questions, in document 01's order
+-- 6 of mosaic and green, 8, 9, and 10 of green, where a plane has `count` samples
+abbrev pub updating-questions : ℕ → List ℕ → List ℕ → ℕ → List Question
+updating-questions count mosaic green room =
+    question 6 (eqb (length mosaic) count) ∷ question 6 (eqb (length green) count) ∷ question 8 (leb (8 * count) room) ∷ samples-question ceiling mosaic ∷ question 10 (all-at-most ceiling green) ∷ []
+
+-- 1, 2 and 3, and then those
 abbrev pub update-questions : Frame → List ℕ → ℕ → List Question
-update-questions f green room =
-    shape-questions (f .width) (f .height) (f .layout)
-    ++ (question 6 (eqb (length (f .samples)) (f .width * f .height)) ∷ question 6 (eqb (length green) (f .width * f .height))
-    ∷ question 8 (leb (8 * (f .width * f .height)) room) ∷ samples-question ceiling (f .samples) ∷ question 10 (all-at-most ceiling green) ∷ [])
+update-questions f green room = shape-questions (f .width) (f .height) (f .layout) ++ updating-questions (f .width * f .height) (f .samples) green room
 
 -- document 01's number of an answer
 abbrev pub number-of-answer : UpdateAnswer → ℕ

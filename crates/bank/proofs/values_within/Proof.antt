@@ -16,7 +16,7 @@ use Rattle.integers.specs.Lists.{tabulate}
 use Rattle.questions.specs.Questions.{all-at-most}
 use Rattle.questions.proofs.Asking.{mark-none, mark-more}
 use Rattle.lines.specs.Lines.{value}
-use Rattle.bank.specs.Planes.{Reach}
+use Rattle.filters.specs.Bank.{Distance}
 use Rattle.bank.proofs.Calls.{magnitudes}
 use Rattle.bank.proofs.values_within.Statement.{statement}
 use Rattle.bank.proofs.values_within.Tie as tie
@@ -38,7 +38,7 @@ shared-slice-copy-out-marked : tie.Need-shared-slice-copy-out-marked Inv-loop μ
 shared-slice-copy-out-marked c = omega arith
 
 marked-requires : tie.Need-marked-requires Inv-loop μ-loop
-marked-requires c κs = let s = c .before .before .before in subst Reach (sym (back (s .fits .most))) (s .pre)
+marked-requires c κs = let s = c .before .before .before in subst Distance (sym (back (s .fits .most))) (s .pre)
 
 add-i : tie.Need-add-i Inv-loop μ-loop
 add-i c = omega arith

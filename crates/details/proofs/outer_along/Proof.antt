@@ -7,8 +7,9 @@ use lib.IntN.{_+ℤ_, _-ℤ_}
 use lib.ListN.{length}
 use denote.Ref.{now}
 use mir.Facts.{toZ-ofZ as back}
+use Rattle.filters.specs.Bank.{Distance}
 use Rattle.integers.proofs.Bounds.{fits}
-use Rattle.details.specs.Details.{Limit, outer-minus, outer-plus}
+use Rattle.details.specs.Details.{outer-minus, outer-plus}
 use Rattle.details.proofs.Details.{triple-padded, outer-laid, outers-laid}
 use borrow.Author.Needs.{needs}
 use Rattle.details.proofs.outer_along.Statement.{statement}
@@ -26,7 +27,7 @@ fit-high s = omega arith
 outer-line-requires : tie.Need-outer-line-requires
 outer-line-requires c κs =
     let s = c .before .before .before .before .before in
-    let limit = subst Limit (sym (back (s .fits .limit))) (s .pre .1 .0) in
+    let limit = subst Distance (sym (back (s .fits .limit))) (s .pre .1 .0) in
     let runs = triple-padded (s .pre .0 .0) (now (s .args .low)) (fit-low s) (c .before .before .before .pad-line .ensures) (s .pre .0 .4) in
     search needs
 
@@ -36,7 +37,7 @@ pad-line-requires-2 c κs = search needs
 outer-lines-requires : tie.Need-outer-lines-requires
 outer-lines-requires c κs =
     let s = c .before .before .before .before .before .before .before .before .before .before .before .before .before in
-    let limit = subst Limit (sym (back (s .fits .limit))) (s .pre .1 .0) in
+    let limit = subst Distance (sym (back (s .fits .limit))) (s .pre .1 .0) in
     let runs = triple-padded (s .pre .0 .0) (now (s .args .high)) (fit-high s) (c .before .before .before .before .pad-line2 .ensures) (s .pre .0 .5) in
     search needs
 

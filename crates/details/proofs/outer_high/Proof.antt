@@ -7,10 +7,10 @@ use denote.Ref.{now}
 use mir.Syntax.{w32}
 use mir.Facts.{toZ-ofZ as back}
 use Rattle.integers.proofs.Bounds.{fits, read-is, read-bound}
-use Rattle.filters.specs.Bank.{high-split}
+use Rattle.filters.specs.Bank.{Distance, high-split}
 use Rattle.filters.proofs.Ranges.{gain}
 use Rattle.lines.specs.Lines.{three}
-use Rattle.details.specs.Details.{excess, Limit, outer}
+use Rattle.details.specs.Details.{excess, outer}
 use Rattle.details.proofs.Details.{triple-small, triple-read, triple-range}
 use borrow.Author.Needs.{needs}
 use Rattle.details.proofs.outer_high.Statement.{statement}
@@ -54,7 +54,7 @@ excess-requires : tie.Need-excess-requires
 unfolding gain high-split
 excess-requires c κs =
     let s = c .before .before .before .before in
-    (subst Limit (sym (back (s .fits .limit))) (s .pre .0), read-bound w32 (value-is c) (triple-range high-split (s .pre .1) (s .args .k) (s .pre .2)))
+    (subst Distance (sym (back (s .fits .limit))) (s .pre .0), read-bound w32 (value-is c) (triple-range high-split (s .pre .1) (s .args .k) (s .pre .2)))
 
 returns : tie.Need-returns
 unfolding outer

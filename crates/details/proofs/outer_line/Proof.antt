@@ -12,8 +12,8 @@ use mir.Facts.{toZ-ofZ as back}
 use Rattle.integers.specs.Lists.{overwrite}
 use Rattle.integers.proofs.Lists.{overwrite-none, overwrite-step}
 use Rattle.integers.proofs.Bounds.{fits, read-is}
-use Rattle.filters.specs.Bank.{high-split}
-use Rattle.details.specs.Details.{Limit, outer}
+use Rattle.filters.specs.Bank.{Distance, high-split}
+use Rattle.details.specs.Details.{outer}
 use borrow.Author.Needs.{needs}
 use Rattle.details.proofs.outer_line.Statement.{statement}
 use Rattle.details.proofs.outer_line.Tie as tie
@@ -35,7 +35,7 @@ loop-holds c = let a = c .args in (omega arith, overwrite-none (now (a .out)) (a
 outer-high-requires : tie.Need-outer-high-requires Inv-loop μ-loop
 outer-high-requires c κs =
     let s = c .before .before in
-    let limit = subst Limit (sym (back (s .fits .limit))) (s .pre .0) in
+    let limit = subst Distance (sym (back (s .fits .limit))) (s .pre .0) in
     search needs
 
 add-t9 : tie.Need-add-t9 Inv-loop μ-loop

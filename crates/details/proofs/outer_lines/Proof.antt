@@ -12,9 +12,9 @@ use mir.Facts.{toZ-ofZ as back}
 use Rattle.integers.specs.Lists.{overwrite}
 use Rattle.integers.proofs.Lists.{overwrite-none, overwrite-step}
 use Rattle.integers.proofs.Bounds.{fits, bounds, read-is, read-bound}
-use Rattle.filters.specs.Bank.{low-split, high-split}
+use Rattle.filters.specs.Bank.{Distance, low-split, high-split}
 use Rattle.filters.proofs.Ranges.{gain}
-use Rattle.details.specs.Details.{Limit, outer-minus, outer-plus}
+use Rattle.details.specs.Details.{outer-minus, outer-plus}
 use Rattle.details.proofs.Details.{outer-range}
 use borrow.Author.Needs.{needs}
 use Rattle.details.proofs.outer_lines.Statement.{statement}
@@ -40,7 +40,7 @@ unfolding gain high-split low-split
 small c =
     let l = c .before .before .before in
     let s = l .before in
-    let limit = subst Limit (sym (back (s .fits .limit))) (s .pre .0) in
+    let limit = subst Distance (sym (back (s .fits .limit))) (s .pre .0) in
     let i : l .loop .k < s .args .n = omega arith in
     (read-bound w32 (c .before .outer-high .ensures) (outer-range high-split _ (limit .sign) (s .pre .1) (l .loop .k) i), read-bound w32 (c .outer-low .ensures) (outer-range low-split _ (limit .sign) (s .pre .1) (l .loop .k) i))
 
@@ -51,13 +51,13 @@ loop-holds c =
 outer-high-requires : tie.Need-outer-high-requires Inv-loop μ-loop
 outer-high-requires c κs =
     let s = c .before .before in
-    let limit = subst Limit (sym (back (s .fits .limit))) (s .pre .0) in
+    let limit = subst Distance (sym (back (s .fits .limit))) (s .pre .0) in
     search needs
 
 outer-low-requires : tie.Need-outer-low-requires Inv-loop μ-loop
 outer-low-requires c κs =
     let s = c .before .before .before in
-    let limit = subst Limit (sym (back (s .fits .limit))) (s .pre .0) in
+    let limit = subst Distance (sym (back (s .fits .limit))) (s .pre .0) in
     search needs
 
 sub-minus : tie.Need-sub-minus Inv-loop μ-loop

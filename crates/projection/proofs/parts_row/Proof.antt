@@ -8,8 +8,7 @@ use mir.Syntax.{w32}
 use mir.Val.{toZ, ofZ}
 use mir.Facts.{toZ-ofZ as back}
 use Rattle.integers.specs.Lists.{overwrite}
-use Rattle.filters.specs.Bank.{low-split, high-split}
-use Rattle.details.specs.Details.{Limit}
+use Rattle.filters.specs.Bank.{Distance, low-split, high-split}
 use Rattle.projection.specs.Rows.{slot, apart-row, together-row, ring-line}
 use Rattle.projection.proofs.Rows.{slot-room, four, ring-runs, line-laid, line-run, parts-run, minus-run, plus-run, apart-laid, together-laid}
 use borrow.Author.Needs.{needs}
@@ -37,7 +36,7 @@ outer-along-requires c κs =
     let s = c .before .before .before .before .before .before .before .before .before .before .before .before in
     let a = s .args in
     let p = s .pre .0 in
-    let limit = subst Limit (sym (back (s .fits .limit))) (p .5) in
+    let limit = subst Distance (sym (back (s .fits .limit))) (p .5) in
     let e = line-laid (a .width) (a .height) (a .r) (now (a .differences)) (c .before .before .before .before .before .before .before .before .before .before .before .slot-before .ensures .0) (c .before .before .before .before .before .before .before .before .before .before .slot-after .ensures .0) low-split (now (a .low)) (c .before .before .before .before .before .before .before .split-line .ensures .0) in
     let f = line-laid (a .width) (a .height) (a .r) (now (a .differences)) (c .before .before .before .before .before .before .before .before .before .before .before .slot-before .ensures .0) (c .before .before .before .before .before .before .before .before .before .before .slot-after .ensures .0) high-split (now (a .high)) (c .before .before .before .before .before .before .before .split-line .ensures .1) in
     let low = line-run (toZ w32 (ofZ w32 (a .limit))) (limit .sign) (a .width) (a .height) (a .r) (p .0) (now (a .differences)) (p .6) low-split (four .0) (now (a .low)) (omega (arith, s .pre .1 .0 .0)) e in
@@ -53,7 +52,7 @@ join-along-requires c κs =
     let s = c .before .before .before .before .before .before .before .before .before .before .before .before .before .before .before .before .before .before .before .before .before .before .before in
     let a = s .args in
     let p = s .pre .0 in
-    let limit = subst Limit (sym (back (s .fits .limit))) (p .5) in
+    let limit = subst Distance (sym (back (s .fits .limit))) (p .5) in
     let e = line-laid (a .width) (a .height) (a .r) (now (a .differences)) (c .before .before .before .before .before .before .before .before .before .before .before .before .before .before .before .before .before .before .before .before .before .before .slot-before .ensures .0) (c .before .before .before .before .before .before .before .before .before .before .before .before .before .before .before .before .before .before .before .before .before .slot-after .ensures .0) low-split (now (a .low)) (c .before .before .before .before .before .before .before .before .before .before .before .before .before .before .before .before .before .before .split-line .ensures .0) in
     let f = line-laid (a .width) (a .height) (a .r) (now (a .differences)) (c .before .before .before .before .before .before .before .before .before .before .before .before .before .before .before .before .before .before .before .before .before .before .slot-before .ensures .0) (c .before .before .before .before .before .before .before .before .before .before .before .before .before .before .before .before .before .before .before .before .before .slot-after .ensures .0) high-split (now (a .high)) (c .before .before .before .before .before .before .before .before .before .before .before .before .before .before .before .before .before .before .split-line .ensures .1) in
     let o = c .before .before .before .before .before .before .before .before .before .before .outer-along .ensures .1 in
@@ -89,7 +88,7 @@ returns c =
     let s = c .before .before .before .before .before .before .before .before .before .before .before .before .before .before .before .before .before .before .before .before .before .before .before .before .before .before .before .before .before in
     let a = s .args in
     let p = s .pre .0 in
-    let limit = subst Limit (sym (back (s .fits .limit))) (p .5) in
+    let limit = subst Distance (sym (back (s .fits .limit))) (p .5) in
     let e = line-laid (a .width) (a .height) (a .r) (now (a .differences)) (c .before .before .before .before .before .before .before .before .before .before .before .before .before .before .before .before .before .before .before .before .before .before .before .before .before .before .before .before .slot-before .ensures .0) (c .before .before .before .before .before .before .before .before .before .before .before .before .before .before .before .before .before .before .before .before .before .before .before .before .before .before .before .slot-after .ensures .0) low-split (now (a .low)) (c .before .before .before .before .before .before .before .before .before .before .before .before .before .before .before .before .before .before .before .before .before .before .before .before .split-line .ensures .0) in
     let f = line-laid (a .width) (a .height) (a .r) (now (a .differences)) (c .before .before .before .before .before .before .before .before .before .before .before .before .before .before .before .before .before .before .before .before .before .before .before .before .before .before .before .before .slot-before .ensures .0) (c .before .before .before .before .before .before .before .before .before .before .before .before .before .before .before .before .before .before .before .before .before .before .before .before .before .before .before .slot-after .ensures .0) high-split (now (a .high)) (c .before .before .before .before .before .before .before .before .before .before .before .before .before .before .before .before .before .before .before .before .before .before .before .before .split-line .ensures .1) in
     let o = c .before .before .before .before .before .before .before .before .before .before .before .before .before .before .before .before .outer-along .ensures .1 in

@@ -5,8 +5,8 @@ use Prim.Native.Nat.{_*_, _-_, _/_, _%_}
 use native.Mathlib.Omega.{arith}
 use denote.Ref.{now}
 use mir.Facts.{toZ-ofZ as back}
+use Rattle.filters.specs.Bank.{Distance}
 use Rattle.integers.specs.Lists.{overwrite}
-use Rattle.details.specs.Details.{Limit}
 use Rattle.projection.specs.Projection.{projected}
 use Rattle.projection.specs.Planes.{own-plane, guide-plane}
 use borrow.Author.Needs.{needs}
@@ -40,7 +40,7 @@ slice-aggregate-project-rows-8 c = search needs
 project-rows-requires : tie.Need-project-rows-requires
 project-rows-requires c κs =
     let s = c .before .before .before .before .before .before .before .before .before .before in
-    let limit = subst Limit (sym (back (s .fits .limit))) (s .pre .0) in
+    let limit = subst Distance (sym (back (s .fits .limit))) (s .pre .0) in
     ((limit, s .pre .1), ((omega (arith, s .pre .1 .width-to), omega (arith, s .pre .1 .width-to), omega (arith, s .pre .1 .width-to), omega (arith, s .pre .1 .width-to), omega (arith, s .pre .1 .width-to), omega (arith, s .pre .1 .width-to)), (omega (arith, s .pre .1 .width-to), omega (arith, s .pre .1 .width-to))))
 
 same-length : tie.Need-same-length

@@ -8,8 +8,8 @@ use denote.Ref.{now}
 use mir.Syntax.{w32}
 use mir.Val.{toZ, ofZ}
 use mir.Facts.{toZ-ofZ as back}
+use Rattle.filters.specs.Bank.{Distance}
 use Rattle.integers.specs.Lists.{overwrite}
-use Rattle.details.specs.Details.{Limit}
 use Rattle.projection.specs.Projection.{projected}
 use Rattle.projection.specs.Planes.{own-plane, guide-plane}
 use Rattle.projection.proofs.Sweep.{Swept, with-rows, long, start, first-rows, next-rows, ring-rows, apart-ring, together-ring, swept-next, settleable, rows-settled, all-projected}
@@ -27,7 +27,7 @@ difference-row-requires : tie.Need-difference-row-requires Inv-loop μ-loop
 difference-row-requires c κs =
     let s = c .before .before .before in
     let a = s .args in
-    let limit = subst Limit (sym (back (s .fits .limit))) (s .pre .0 .0) in
+    let limit = subst Distance (sym (back (s .fits .limit))) (s .pre .0 .0) in
     let q = first-rows (toZ w32 (ofZ w32 (a .limit))) (toZ w32 (ofZ w32 (a .low))) (toZ w32 (ofZ w32 (a .high))) (now (a .own)) (a .at) (now (a .guide)) (a .from) (a .down) (a .across) (a .width) (a .height) (s .pre .0 .1) (limit .sign) in
     ((q .0, q .1), (s .pre .0 .1 .width-from, s .pre .0 .1 .width-to, s .pre .1 .0 .0))
 
@@ -35,7 +35,7 @@ loop-holds : tie.Need-loop-holds Inv-loop μ-loop
 loop-holds c =
     let s = c .before .before .before .before .before in
     let a = s .args in
-    let limit = subst Limit (sym (back (s .fits .limit))) (s .pre .0 .0) in
+    let limit = subst Distance (sym (back (s .fits .limit))) (s .pre .0 .0) in
     (omega arith, start (toZ w32 (ofZ w32 (a .limit))) (toZ w32 (ofZ w32 (a .low))) (toZ w32 (ofZ w32 (a .high))) (now (a .own)) (a .at) (now (a .guide)) (a .from) (a .down) (a .across) (a .width) (a .height) (s .pre .0 .1) (limit .sign) (now (a .differences)) (now (a .apart)) (now (a .together)) (s .pre .1 .0 .0) (c .before .difference-row .ensures), refl, refl, refl, refl, refl, refl, refl, refl, refl)
 
 -- the rings have room
@@ -60,7 +60,7 @@ difference-row-requires-2 c κs =
     let l = c .before .before .before .before in
     let s = l .before .before .before .before .before .before in
     let a = s .args in
-    let limit = subst Limit (sym (back (s .fits .limit))) (s .pre .0 .0) in
+    let limit = subst Distance (sym (back (s .fits .limit))) (s .pre .0 .0) in
     let q = next-rows (toZ w32 (ofZ w32 (a .limit))) (toZ w32 (ofZ w32 (a .low))) (toZ w32 (ofZ w32 (a .high))) (now (a .own)) (a .at) (now (a .guide)) (a .from) (a .down) (a .across) (a .width) (a .height) (s .pre .0 .1) (limit .sign) (l .loop .inv .1) (c .before .before .before .loop-test .taken) (c .before .before .reflected .ensures .0) in
     ((q .0, q .1), (s .pre .0 .1 .width-from, s .pre .0 .1 .width-to, room-d l))
 
@@ -69,7 +69,7 @@ parts-row-requires c κs =
     let l = c .before .before .before .before .before .before .before .before .before .before .before .before .before .before in
     let s = l .before .before .before .before .before .before in
     let a = s .args in
-    let limit = subst Limit (sym (back (s .fits .limit))) (s .pre .0 .0) in
+    let limit = subst Distance (sym (back (s .fits .limit))) (s .pre .0 .0) in
     let i = c .before .before .before .before .before .before .before .before .before .before .before .before .before .loop-test .taken in
     let z = s .pre .0 .1 in
     let v = l .loop .inv in
@@ -84,7 +84,7 @@ add-ready c =
     let l = c .before .before .before .before .before .before .before .before .before .before .before .before .before .before .before .before .before .before .before .before .before .before .before .before in
     let s = l .before .before .before .before .before .before in
     let a = s .args in
-    let limit = subst Limit (sym (back (s .fits .limit))) (s .pre .0 .0) in
+    let limit = subst Distance (sym (back (s .fits .limit))) (s .pre .0 .0) in
     omega (arith, s .pre .0 .1 .height-to, l .loop .inv .0)
 
 ready-requires-2 : tie.Need-ready-requires-2 Inv-loop μ-loop
@@ -95,7 +95,7 @@ settle-rows-requires c κs =
     let l = c .before .before .before .before .before .before .before .before .before .before .before .before .before .before .before .before .before .before .before .before .before .before .before .before .before .before .before in
     let s = l .before .before .before .before .before .before in
     let a = s .args in
-    let limit = subst Limit (sym (back (s .fits .limit))) (s .pre .0 .0) in
+    let limit = subst Distance (sym (back (s .fits .limit))) (s .pre .0 .0) in
     let z = s .pre .0 .1 in
     let v = l .loop .inv in
     let i = c .before .before .before .before .before .before .before .before .before .before .before .before .before .before .before .before .before .before .before .before .before .before .before .before .before .before .loop-test .taken in
@@ -114,7 +114,7 @@ add-r c =
     let l = c .before .before .before .before .before .before .before .before .before .before .before .before .before .before .before .before .before .before .before .before .before .before .before .before .before .before .before .before .before in
     let s = l .before .before .before .before .before .before in
     let a = s .args in
-    let limit = subst Limit (sym (back (s .fits .limit))) (s .pre .0 .0) in
+    let limit = subst Distance (sym (back (s .fits .limit))) (s .pre .0 .0) in
     omega (arith, s .pre .0 .1 .height-to, l .loop .inv .0)
 
 loop-less : tie.Need-loop-less Inv-loop μ-loop
@@ -125,7 +125,7 @@ loop-again c =
     let l = c .before .before .before .before .before .before .before .before .before .before .before .before .before .before .before .before .before .before .before .before .before .before .before .before .before .before .before .before .before in
     let s = l .before .before .before .before .before .before in
     let a = s .args in
-    let limit = subst Limit (sym (back (s .fits .limit))) (s .pre .0 .0) in
+    let limit = subst Distance (sym (back (s .fits .limit))) (s .pre .0 .0) in
     let z = s .pre .0 .1 in
     let v = l .loop .inv in
     let i = c .before .before .before .before .before .before .before .before .before .before .before .before .before .before .before .before .before .before .before .before .before .before .before .before .before .before .before .before .loop-test .taken in
@@ -159,7 +159,7 @@ settle-rows-requires-2 c κs =
     let l = c .before .before .before .before .before in
     let s = l .before .before .before .before .before .before in
     let a = s .args in
-    let limit = subst Limit (sym (back (s .fits .limit))) (s .pre .0 .0) in
+    let limit = subst Distance (sym (back (s .fits .limit))) (s .pre .0 .0) in
     let v = l .loop .inv in
     let f = c .before .before .ready3 .ensures in
     let all : l .loop .r ≡ a .height = omega (arith, v .0, c .before .before .before .before .loop-test .left) in
@@ -198,7 +198,7 @@ returns c =
     let l = c .before .before .before .before .before .before .before in
     let s = l .before .before .before .before .before .before in
     let a = s .args in
-    let limit = subst Limit (sym (back (s .fits .limit))) (s .pre .0 .0) in
+    let limit = subst Distance (sym (back (s .fits .limit))) (s .pre .0 .0) in
     let v = l .loop .inv in
     let f = c .before .before .before .before .ready3 .ensures in
     let all : l .loop .r ≡ a .height = omega (arith, v .0, c .before .before .before .before .before .before .loop-test .left) in
