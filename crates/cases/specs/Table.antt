@@ -1,6 +1,6 @@
 -- Document 01, "Reference cases": those with a letter, as one table. A row has what the engine's definitions compute, and what
 -- document 01 states. proofs/Table.antt has the one proof. Assumes nothing.
-use mathlib.Core.List.{List, [], _∷_, _++_}
+use mathlib.Core.List.{List, [], _∷_, _++_, map}
 use lib.IntN.{ℤ, pos, negℤ}
 use Prim.Native.Nat.{ℕ}
 use Rattle.border.specs.Border.{reflect}
@@ -8,10 +8,14 @@ use Rattle.turns.specs.Pictures.{then-another}
 use Rattle.filters.specs.Bank.{Bands}
 use Rattle.bank.specs.Calls.{split-lists, join-list}
 use Rattle.questions.specs.Questions.{ceiling}
+use Rattle.turns.specs.Frames.{Planes, frame, planes}
 use Rattle.estimate.specs.Estimates.{around, hamilton-adams}
+use Rattle.projection.specs.Projection.{held}
+use Rattle.rounds.specs.Rounds.{limit-of}
+use Rattle.rounds.specs.Calls.{rounds-lists}
 
 pub data Letter : Type 0 where
-  a b c d h i j : Letter
+  a b c d e f g h i j k : Letter
 
 pub record Case : Type 0 where
   pub letter : Letter
@@ -37,6 +41,11 @@ green-of n = pos (hamilton-adams ceiling (around (line 80 ∷ line 50 ∷ (n ∷
     line : ℕ → List ℕ
     line m = 0 ∷ 0 ∷ m ∷ 0 ∷ 0 ∷ []
 
+-- 2 by 2, layout 0, T 0, one round, green 40 60 / 60 40, red all 100, blue all 5, mosaic 100 60 60 5
+unfoldable pub one-round : Planes (List ℕ)
+one-round =
+    rounds-lists ceiling (frame 2 2 0 (100 ∷ 60 ∷ 60 ∷ 5 ∷ [])) 0 1 (planes (100 ∷ 100 ∷ 100 ∷ 100 ∷ []) (40 ∷ 60 ∷ 60 ∷ 40 ∷ []) (5 ∷ 5 ∷ 5 ∷ 5 ∷ []))
+
 unfoldable pub table : List Case
 table =
     -- reflection of −2 for n = 4, and for n = 2
@@ -47,8 +56,14 @@ table =
     -- plane of one row 0 8 0: band 1 is 64 64 64, band 2 is 64 −64 64, bands 3 and 4 zero; the join gives 0 8192 0
     ∷ case d (in-order (split-lists 3 1 row) ++ join-list 3 1 (split-lists 3 1 row))
     ((pos 64 ∷ pos 64 ∷ pos 64 ∷ []) ++ (pos 64 ∷ negℤ (pos 64) ∷ pos 64 ∷ []) ++ (pos 0 ∷ pos 0 ∷ pos 0 ∷ []) ++ (pos 0 ∷ pos 0 ∷ pos 0 ∷ []) ++ (pos 0 ∷ pos 8192 ∷ pos 0 ∷ []))
+    -- T = 1, green band 0: 17 becomes 16, 16 stays, −17 becomes −16
+    ∷ case e (held (limit-of 1) (pos 0) (pos 17) ∷ []) (pos 16 ∷ [])
+    ∷ case f (held (limit-of 1) (pos 0) (pos 16) ∷ []) (pos 16 ∷ [])
+    ∷ case g (held (limit-of 1) (pos 0) (negℤ (pos 17)) ∷ []) (negℤ (pos 16) ∷ [])
     -- two away by columns 100 and 100: green 50; 60 and 60: 60; 90 and 90: 58
     ∷ case h (green-of 100 ∷ []) (pos 50 ∷ [])
     ∷ case i (green-of 60 ∷ []) (pos 60 ∷ [])
     ∷ case j (green-of 90 ∷ []) (pos 58 ∷ [])
+    -- red 100 110 / 110 90, blue 0 15 / 15 5
+    ∷ case k (map pos (one-round .red ++ one-round .blue)) ((pos 100 ∷ pos 110 ∷ pos 110 ∷ pos 90 ∷ []) ++ (pos 0 ∷ pos 15 ∷ pos 15 ∷ pos 5 ∷ []))
     ∷ []

@@ -3,10 +3,9 @@ ghost use mathlib.Core.Path.{_≡_};
 ghost use Rattle.questions.specs.Questions.{ask, ceiling};
 ghost use Rattle.packet.specs.Calls.{read-questions};
 ghost use Rattle.filters.specs.Bank.{brought-back};
-ghost use Rattle.turns.specs.Frames.{frame};
+ghost use Rattle.turns.specs.Frames.{frame, planes};
 ghost use Rattle.bank.specs.Calls.{bands};
-ghost use Rattle.estimate.specs.Calls.{planes};
-ghost use Rattle.demosaic_c.specs.Calls.{SplitNumber, JoinNumber, EstimateNumber, UpdateNumber};
+ghost use Rattle.demosaic_c.specs.Calls.{SplitNumber, JoinNumber, EstimateNumber, UpdateNumber, RoundsNumber};
 
 // A packet's refusal number by the reader's questions, 0 for sound.
 #[no_mangle]
@@ -85,4 +84,34 @@ pub extern "C" fn demosaic_update(
     ensures { λ r. ⌜ UpdateNumber (frame width height layout (now (mosaic .entry))) (now (green .entry)) (now (work .entry)) r (now (green .exit)) (now (work .exit)) ⌝ }
 {
     update::update(width, height, layout, mosaic, green, work).number()
+}
+
+// Runs the rounds on three given planes, red and blue in place; 0 or the refusal's number.
+#[no_mangle]
+pub extern "C" fn demosaic_rounds(
+    width: usize,
+    height: usize,
+    layout: u8,
+    rounds: u8,
+    threshold: u16,
+    mosaic: &[u16],
+    red: &mut [u16],
+    green: &[u16],
+    blue: &mut [u16],
+    work: &mut [i32],
+) -> u32
+    ensures { λ r. ⌜ RoundsNumber (frame width height layout (now (mosaic .entry))) rounds threshold (planes (now (red .entry)) (now (green .entry)) (now (blue .entry))) (now (work .entry)) r (planes (now (red .exit)) (now (green .entry)) (now (blue .exit))) (now (work .exit)) ⌝ }
+{
+    rounds::rounds(
+        width,
+        height,
+        layout,
+        rounds,
+        threshold,
+        mosaic,
+        red,
+        green,
+        blue,
+        work,
+    ).number()
 }

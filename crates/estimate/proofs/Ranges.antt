@@ -18,9 +18,9 @@ use Rattle.questions.specs.Questions.{all-at-most}
 use Rattle.questions.proofs.Asking.{all-at-most-at, all-at-most-by}
 use Rattle.turns.specs.Layout.{Colour, red, green, blue, by-parity, on-red-row, on-red-column}
 use Rattle.turns.specs.Operations.{Around, nearby}
-use Rattle.turns.specs.Frames.{Frame, listing, plane-of}
+use Rattle.turns.specs.Frames.{Frame, Planes, listing, plane-of}
 use Rattle.turns.proofs.Frames.{row-inside, column-inside, place-inside}
-use Rattle.estimate.specs.Estimates.{row-of, column-of, eight-greens, hamilton-adams, green-at, of-two, of-four, bilinear, Pixel, estimate-at, estimate}
+use Rattle.estimate.specs.Estimates.{row-of, column-of, eight-greens, hamilton-adams, green-at, of-two, of-four, bilinear, estimate-at, estimate}
 use Rattle.estimate.specs.Calls.{estimate-lists}
 
 module _ (top : ℕ) where
@@ -52,7 +52,7 @@ module _ (top : ℕ) where
     green-bound blue = adams-bound
 
 -- one in each of the three planes
-pub record Within (top : ℕ) (q : Pixel) : Type 0 where
+pub record Within (top : ℕ) (q : Planes ℕ) : Type 0 where
   pub red : q .red ≤ top
   pub green : q .green ≤ top
   pub blue : q .blue ≤ top

@@ -6,22 +6,10 @@ use lib.Dec.{eqb}
 use lib.ListN.{length}
 use Rattle.questions.specs.Questions.{Question, question, ceiling, shape-questions, samples-question}
 use Rattle.questions.specs.Answers.{Answered, if-accepted}
-use Rattle.turns.specs.Frames.{Frame, listing, plane-of}
+use Rattle.turns.specs.Frames.{Frame, Planes, planes, lengths, listing, plane-of}
 use Rattle.estimate.specs.Estimates.{estimate}
 use Rattle.estimate.specs.declared.EstimateAnswer.{EstimateAnswer}
 use Rattle.estimate.specs.declared.EstimateAnswer.the-variants as estimate-answer
-
--- one of a kind for each of the three planes
-pub record Planes (A : Type 0) : Type 0 where
-  pub red : A
-  pub green : A
-  pub blue : A
-
-abbrev pub planes : {A : Type 0} → A → A → A → Planes A
-planes r g b = record { red = r; green = g; blue = b }
-
-abbrev pub lengths : Planes (List ℕ) → Planes ℕ
-lengths p = planes (length (p .red)) (length (p .green)) (length (p .blue))
 
 -- ---- the questions, in document 01's order: 1, 2, 3, 6, 7 of each plane, 9
 abbrev pub estimate-questions : Frame → Planes ℕ → List Question

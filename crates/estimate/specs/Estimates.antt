@@ -10,6 +10,7 @@ use Rattle.integers.specs.Numbers.{rounded, clamp}
 use Rattle.integers.specs.Lists.{tabulate}
 use Rattle.border.specs.Border.{reflect}
 use Rattle.turns.specs.Layout.{Colour, red, green, blue, by-parity}
+use Rattle.turns.specs.Frames.{Planes}
 use Rattle.turns.specs.Operations.{Operation, Around, nearby}
 
 -- ---- the neighbourhood
@@ -80,18 +81,13 @@ bilinear false true n = of-two (n (negsuc 0) (pos 0)) (n (pos 1) (pos 0))
 bilinear false false n = of-four (n (negsuc 0) (negsuc 0)) (n (negsuc 0) (pos 1)) (n (pos 1) (negsuc 0)) (n (pos 1) (pos 1))
 
 -- ---- the three planes, at a place
-pub record Pixel : Type 0 where
-  pub red : ℕ
-  pub green : ℕ
-  pub blue : ℕ
-
 -- by whether the place's row, and its column, have red's parity; blue has the other parity in both
-unfoldable pub estimate-at : ℕ → Bool → Bool → Around ℕ → Pixel
+unfoldable pub estimate-at : ℕ → Bool → Bool → Around ℕ → Planes ℕ
 estimate-at top on-row on-column n = record {
   red = bilinear on-row on-column n;
   green = green-at top (by-parity on-row on-column) n;
   blue = bilinear (not on-row) (not on-column) n;
 }
 
-unfoldable pub estimate : ℕ → Operation ℕ Pixel
+unfoldable pub estimate : ℕ → Operation ℕ (Planes ℕ)
 estimate top = nearby (estimate-at top)

@@ -10,10 +10,10 @@ ghost use Rattle.integers.specs.Lists.{tabulate, overwrite};
 ghost use Rattle.questions.specs.Questions.{ask};
 ghost use Rattle.border.specs.Border.{reflect};
 ghost use Rattle.turns.specs.Layout.{by-parity, on-red-row, on-red-column};
-ghost use Rattle.turns.specs.Frames.{frame, listing, plane-of};
+ghost use Rattle.turns.specs.Frames.{frame, planes, listing, plane-of};
 ghost use Rattle.estimate.specs.Inner.{Mosaic, inner, line-of, half-along, Small, most-detail, most-along, most-greens};
 ghost use Rattle.estimate.specs.Estimates.{neighbourhood as neighbourhood-of, around, greens as greens-of, two-away as two-away-of, gradient as gradient-of, eight-greens as eight-of, hamilton-adams, green-at as green-by, of-two as two-rounded, of-four as four-rounded, bilinear, estimate as estimate-of};
-ghost use Rattle.estimate.specs.Calls.{planes, estimate-questions, number-of-answer, EstimateResult};
+ghost use Rattle.estimate.specs.Calls.{estimate-questions, number-of-answer, EstimateResult};
 
 // What the estimate call answers.
 pub enum EstimateAnswer {

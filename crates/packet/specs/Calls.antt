@@ -5,7 +5,7 @@ use mathlib.Core.Bool.{cond}
 use mathlib.Core.List.{List, [], _∷_, _++_}
 use lib.Dec.{leb, eqb}
 use lib.ListN.{length, drop}
-use Rattle.questions.specs.Questions.{Question, question, ceiling, shape-questions, settings-questions, samples-question}
+use Rattle.questions.specs.Questions.{Question, question, ceiling, frame-questions, samples-question}
 use Rattle.questions.specs.Answers.{Answered, if-accepted}
 use Rattle.packet.specs.Packet.{distance, packet, fields-of, distance-in, sample-part, samples-of, repeats}
 use Rattle.packet.specs.declared.Fields.{Fields}
@@ -19,7 +19,7 @@ use Rattle.packet.specs.declared.Repeat.the-variants as repeat
 -- ---- the questions, in document 01's order
 -- 1, 2, 3, 4, 5
 abbrev pub fields-questions : Fields → List Question
-fields-questions f = shape-questions (f .width) (f .height) (f .layout) ++ settings-questions ceiling (f .rounds) (f .threshold)
+fields-questions f = frame-questions ceiling (f .width) (f .height) (f .layout) (f .rounds) (f .threshold)
 
 -- 12 distance equal to 2·w·h + 12, 13 distance within the store, which has `held` bytes
 abbrev pub distance-questions : ℕ → Fields → ℕ → List Question

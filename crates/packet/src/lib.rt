@@ -72,11 +72,7 @@ fn distance_back(store: &[u8]) -> usize
 fn fields_refusal(f: Fields) -> u32
     ensures { λ r. ⌜ r ≡ ask (fields-questions f) ⌝ }
 {
-    let number = questions::shape(f.width, f.height, f.layout);
-    if number != 0 {
-        return number;
-    }
-    questions::settings(4095, f.rounds, f.threshold)
+    questions::frame(4095, f.width, f.height, f.layout, f.rounds, f.threshold)
 }
 
 // Questions 11, 1, 2, 3, 4, 5, 12 and 13. No sample is looked at.

@@ -41,6 +41,10 @@ shape-questions width height layout = size-questions 2 width height ++ (question
 abbrev pub settings-questions : ℕ → ℕ → ℕ → List Question
 settings-questions top rounds threshold = question 4 (leb rounds 64) ∷ question 5 (leb threshold top) ∷ []
 
+-- 1 to 5, of a frame that is to be finished
+abbrev pub frame-questions : ℕ → ℕ → ℕ → ℕ → ℕ → ℕ → List Question
+frame-questions top width height layout rounds threshold = shape-questions width height layout ++ settings-questions top rounds threshold
+
 -- 9 samples at most `top`
 abbrev pub samples-question : ℕ → List ℕ → Question
 samples-question top samples = question 9 (all-at-most top samples)

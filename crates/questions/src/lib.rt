@@ -1,7 +1,7 @@
 // Inner: the checks that calls share. Each answers the number of the first question answered no, or 0.
 ghost use mathlib.Core.Path.{_≡_};
 ghost use Prim.Native.Nat.{max};
-ghost use Rattle.questions.specs.Questions.{ask, all-at-most, size-questions, shape-questions, settings-questions};
+ghost use Rattle.questions.specs.Questions.{ask, all-at-most, size-questions, shape-questions, settings-questions, frame-questions};
 
 // Questions 1 and 2, from `least` on.
 pub fn sizes(least: usize, width: usize, height: usize) -> u32
@@ -47,6 +47,17 @@ pub fn settings(top: u16, rounds: u8, threshold: u16) -> u32
         return 5;
     }
     0
+}
+
+// Questions 1 to 5 of a frame that is to be finished.
+pub fn frame(top: u16, width: usize, height: usize, layout: u8, rounds: u8, threshold: u16) -> u32
+    ensures { λ r. ⌜ r ≡ ask (frame-questions top width height layout rounds threshold) ⌝ }
+{
+    let number = shape(width, height, layout);
+    if number != 0 {
+        return number;
+    }
+    settings(top, rounds, threshold)
 }
 
 pub fn larger(a: u16, b: u16) -> u16

@@ -1,7 +1,7 @@
 -- Samples row by row, and turned frames. Assumes nothing.
 use mathlib.Core.List.{List}
 use Prim.Native.Nat.{ℕ, _+_, _*_, _/_, _%_}
-use lib.ListN.{getD}
+use lib.ListN.{getD, length}
 use Rattle.integers.specs.Lists.{tabulate}
 use Rattle.turns.specs.Pictures.{Picture, turned}
 
@@ -13,6 +13,18 @@ module _ {A : Type 0} where
   -- the plane that a list of rows of w elements holds; past the list's end, `none`
   unfoldable pub plane-of : A → ℕ → List A → ℕ → ℕ → A
   plane-of none w list r c = getD list (r * w + c) none
+
+-- one of a kind for each of the three planes: three lists, their lengths, or the three samples at a place
+pub record Planes (A : Type 0) : Type 0 where
+  pub red : A
+  pub green : A
+  pub blue : A
+
+abbrev pub planes : {A : Type 0} → A → A → A → Planes A
+planes r g b = record { red = r; green = g; blue = b }
+
+abbrev pub lengths : Planes (List ℕ) → Planes ℕ
+lengths p = planes (length (p .red)) (length (p .green)) (length (p .blue))
 
 -- document 01's width, height, layout and samples; a plane of samples too
 pub record Frame : Type 0 where

@@ -3,25 +3,28 @@ use mathlib.Core.Path.{_≡_, refl, _∙_, ap}
 use mathlib.Core.List.{List}
 use Prim.Native.Nat.{ℕ, _*_, _-_, _≤_, _<_}
 use native.Mathlib.Omega.{arith}
-use lib.IntN.{ℤ, pos}
+use lib.IntN.{ℤ}
 use lib.ListN.{length}
 use borrow.Author.Tests.{eqb-true, leb-true}
-use Rattle.integers.proofs.Lists.{length-overwrite, overwrite-again}
 use Rattle.questions.specs.Questions.{ceiling, ask, shape-questions}
 use Rattle.questions.proofs.Asking.{all-yes, all-yes-split, shape-is}
 use Rattle.questions.proofs.Answering.{answer-no, answer-yes, left-no, left-yes}
 use Rattle.turns.specs.Layout.{red-row, red-column}
 use Rattle.turns.specs.Frames.{Frame, frame, listing, plane-of}
 use Rattle.turns.proofs.Pictures.{row-lt}
-use Rattle.update.specs.Update.{places, put-mixed, update}
-use Rattle.update.specs.Calls.{updating-questions, update-questions, number-of-answer, update-list, zeroed, UpdateResult}
-use Rattle.update.specs.Places.{Updatable, with-mixed}
+use Rattle.work_buffer.specs.Places.{places, Workable}
+use Rattle.work_buffer.specs.Buffer.{zeroed}
+use Rattle.work_buffer.proofs.Places.{few-places}
+use Rattle.work_buffer.proofs.Buffer.{length-with-plane, zeroed-with-plane}
+use Rattle.update.specs.Update.{put-mixed, update}
+use Rattle.update.specs.Calls.{updating-questions, update-questions, number-of-answer, update-list, UpdateResult}
+use Rattle.update.specs.Places.{with-mixed}
 use Rattle.update.specs.declared.UpdateAnswer.the-variants.{Accepted, Refused}
-use Rattle.update.proofs.Places.{few-places, second-colour}
+use Rattle.update.proofs.Places.{second-colour}
 
 -- ---- what an accepted call knows
-pub updatable : (f : Frame) (green : List ℕ) (room n : ℕ) → n ≡ ask (update-questions f green room) → n ≡ 0 → Updatable (f .width) (f .height) (f .samples) green room
-updatable f green room n e z =
+pub workable : (f : Frame) (green : List ℕ) (room n : ℕ) → n ≡ ask (update-questions f green room) → n ≡ 0 → Workable (f .width) (f .height) (f .samples) green room
+workable f green room n e z =
     let count = f .width * f .height in
     let y = all-yes-split (shape-questions (f .width) (f .height) (f .layout)) (updating-questions count (f .samples) green room) (all-yes (update-questions f green room) tt n e z) in
     let s = shape-is (f .width) (f .height) (f .layout) (y .0) in
@@ -31,7 +34,7 @@ updatable f green room n e z =
       height-from = s .height-from;
       height-to = s .height-to;
       samples = eqb-true (length (f .samples)) count (y .1 .0);
-      estimate = eqb-true (length green) count (y .1 .1 .0);
+      greens = eqb-true (length green) count (y .1 .1 .0);
       work = leb-true (8 * count) room (y .1 .1 .1 .0);
     }
 
@@ -49,11 +52,11 @@ both-colours top w h l mosaic green e q =
 module _ (top w h a b : ℕ) (mosaic green : List ℕ) (work : List ℤ) (hw : 1 ≤ w) (hh : 1 ≤ h) (room : 8 * (w * h) ≤ length work) where
   length-with-mixed : length (with-mixed top w h a b mosaic green work) ≡ length work
   unfolding with-mixed
-  length-with-mixed = length-overwrite work 0 (places w b * places h a) _ (omega (arith, few-places w h a b hw hh, room))
+  length-with-mixed = length-with-plane (places w b) (places h a) work (omega (arith, few-places w h a b hw hh, room)) _
 
   zeroed-mixed : zeroed w h (with-mixed top w h a b mosaic green work) ≡ zeroed w h work
-  unfolding zeroed with-mixed
-  zeroed-mixed = overwrite-again (pos 0) work 0 (places w b * places h a) (8 * (w * h)) _ (λ k. pos 0) (omega (arith, few-places w h a b hw hh)) (omega (arith, room))
+  unfolding with-mixed
+  zeroed-mixed = zeroed-with-plane w h (places w b) (places h a) _ work (omega (arith, few-places w h a b hw hh)) room
 
 -- and whatever both did
 pub all-zero : (top w h a b c d : ℕ) (mosaic green after : List ℕ) (work : List ℤ) → 1 ≤ w → 1 ≤ h → 8 * (w * h) ≤ length work → {first second last : List ℤ}

@@ -7,7 +7,6 @@ use native.Mathlib.Omega.{arith}
 use lib.Dec.{T, eqb, eqb→eq}
 use lib.IntN.{ℤ, pos, natAbs, _+ℤ_, _-ℤ_, +ℤ-idr}
 use lib.Signed.{_≤ℤ_}
-use borrow.Author.Tests.{eqb-true, eqb-false, eq-eqb, ne-eqb}
 use Rattle.integers.specs.Numbers.{rounded, clamp}
 use Rattle.integers.proofs.Tests.{cond-cases}
 use Rattle.integers.proofs.Order.{≤ℤ-antisym}
@@ -16,7 +15,9 @@ use Rattle.turns.specs.Layout.{red-row, red-column, on-red-row, on-red-column}
 use Rattle.turns.proofs.Pictures.{row-lt, column-lt}
 use Rattle.filters.specs.Bank.{Bands, split, join, brought-back}
 use Rattle.projection.specs.Projection.{held, hold-details, held-sum, projected}
-use Rattle.update.specs.Update.{places, small-plane, mix, mixed, put-mixed, update}
+use Rattle.work_buffer.specs.Places.{places}
+use Rattle.work_buffer.proofs.Places.{other-parity}
+use Rattle.update.specs.Update.{small-plane, mix, mixed, put-mixed, update}
 
 -- ---- mixing is the projection with the limit 0
 -- a value held by a limit of 0 is the guide's
@@ -48,16 +49,6 @@ unfolding mixed brought-back
 mixed-bound top w h green colour r c = clamp-sample top _ .0
 
 -- ---- every second place of n, from a on
--- place i of the small line is inside the line
-pub place-inside : (n a i : ℕ) → a < 2 → i < places n a → 2 * i + a < n
-unfolding places
-place-inside n a i ha hi = omega arith
-
--- a place, in the small line of its parity
-pub small-inside : (n c : ℕ) → c < n → c / 2 < places n (c % 2)
-unfolding places
-small-inside n c h = omega arith
-
 -- the mirrored place's small line is as long
 pub places-mirror : (n c : ℕ) → c < n → places n (c % 2) ≡ places n ((n - 1 - c) % 2)
 unfolding places
@@ -97,14 +88,6 @@ put-mixed-own top w h a b mosaic green plane r c = go (eqb (r % 2) a) (eqb (c % 
 abbrev pub both-or-neither : Bool → Bool → Bool
 both-or-neither true b = b
 both-or-neither false b = not b
-
--- a row or a column has the other parity where it has not this one
-other-parity : (n a : ℕ) → a < 2 → eqb (n % 2) (1 - a) ≡ not (eqb (n % 2) a)
-other-parity n a h = go (eqb (n % 2) a) refl
-  where
-    go : (t : Bool) → eqb (n % 2) a ≡ t → eqb (n % 2) (1 - a) ≡ not t
-    go true e = ne-eqb (n % 2) (1 - a) (λ f. let g : n % 2 ≡ a = eqb-true (n % 2) a e in omega arith)
-    go false e = eq-eqb (n % 2) (1 - a) (let g : n % 2 ≡ a → ⊥ = eqb-false (n % 2) a e in omega arith)
 
 -- the update at any place
 pub update-place : (top w h l : ℕ) (p : ℕ → ℕ → ℕ × ℕ) (r c : ℕ)

@@ -8,8 +8,10 @@ use Rattle.turns.specs.Operations.{Operation}
 use Rattle.turns.specs.Pictures.{Picture, turned, _≈_}
 use Rattle.turns.proofs.Commuting.{Agree, Commutes, same, composed, paired, pointwise, by-parities, commutes-by, apply, apply-turned}
 use Rattle.projection.proofs.Projection.{projected-commutes}
-use Rattle.update.specs.Update.{places, small-plane, mixed, update}
-use Rattle.update.proofs.Mixing.{mixed-projected, place-inside, small-inside, places-mirror, small-mirror, place-mirror, own-mixed, both-or-neither, update-place}
+use Rattle.work_buffer.specs.Places.{places}
+use Rattle.work_buffer.proofs.Places.{place-inside, small-inside}
+use Rattle.update.specs.Update.{small-plane, mixed, update}
+use Rattle.update.proofs.Mixing.{mixed-projected, places-mirror, small-mirror, place-mirror, own-mixed, both-or-neither, update-place}
 
 -- ---- an operation on small planes, which asks for no layout, at every place on the small plane of the places with its parities
 unfoldable pub on-small-planes : {A B : Type 0} → (ℕ → ℕ → (ℕ → ℕ → A) → ℕ → ℕ → B) → Operation A B

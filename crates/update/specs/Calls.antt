@@ -3,12 +3,12 @@ use mathlib.Core.Path.{_≡_}
 use mathlib.Core.List.{List, [], _∷_, _++_}
 use Prim.Native.Nat.{ℕ, _*_}
 use lib.Dec.{eqb, leb}
-use lib.IntN.{ℤ, pos}
+use lib.IntN.{ℤ}
 use lib.ListN.{length}
-use Rattle.integers.specs.Lists.{overwrite}
 use Rattle.questions.specs.Questions.{Question, question, ceiling, all-at-most, shape-questions, samples-question}
 use Rattle.questions.specs.Answers.{Answered, if-accepted}
 use Rattle.turns.specs.Frames.{Frame, listing, plane-of}
+use Rattle.work_buffer.specs.Buffer.{zeroed}
 use Rattle.update.specs.Update.{update}
 use Rattle.update.specs.declared.UpdateAnswer.{UpdateAnswer}
 use Rattle.update.specs.declared.UpdateAnswer.the-variants as update-answer
@@ -33,10 +33,6 @@ number-of-answer (update-answer.Refused number) = number
 unfoldable pub update-list : ℕ → Frame → List ℕ → List ℕ
 update-list top f green =
     listing (f .width) (f .height) (update top (f .width) (f .height) (f .layout) (λ r c. (plane-of 0 (f .width) (f .samples) r c, plane-of 0 (f .width) green r c)))
-
--- a work buffer after an accepted call: its first 8·w·h hold 0, and the rest is untouched
-unfoldable pub zeroed : ℕ → ℕ → List ℤ → List ℤ
-zeroed w h work = overwrite work 0 (8 * (w * h)) (λ k. pos 0)
 
 -- The update call, given frame f, a green plane that held `green`, and a work buffer that held `work`: its answer r, and what the two
 -- hold after.

@@ -6,12 +6,9 @@ use lib.IntN.{ℤ, pos}
 use Rattle.turns.specs.Layout.{red-row, red-column}
 use Rattle.turns.specs.Operations.{Operation}
 use Rattle.filters.specs.Bank.{Bands, split, join, brought-back}
+use Rattle.work_buffer.specs.Places.{places}
 
 -- ---- a colour's places: every second row from a on, every second column from b on
--- how many of n rows, or columns, are its
-unfoldable pub places : ℕ → ℕ → ℕ
-places n a = (n + 1 - a) / 2
-
 -- the small plane that they form
 unfoldable pub small-plane : {A : Type 0} → ℕ → ℕ → (ℕ → ℕ → A) → ℕ → ℕ → A
 small-plane a b plane i j = plane (2 * i + a) (2 * j + b)

@@ -1,17 +1,17 @@
 // Document 01's green update.
 ghost use mathlib.Core.Path.{_≡_};
 ghost use Prim.Native.Nat.{_+_, _*_, _≤_, _<_};
-ghost use lib.Dec.{T};
-ghost use lib.IntN.{pos, natAbs};
+ghost use lib.IntN.{natAbs};
 ghost use lib.ListN.{length};
-ghost use lib.Signed.{nonNeg};
 ghost use Rattle.integers.specs.Lists.{overwrite};
 ghost use Rattle.questions.specs.Questions.{ceiling, ask};
 ghost use Rattle.turns.specs.Frames.{frame, listing, plane-of};
 ghost use Rattle.lines.specs.Lines.{value};
+ghost use Rattle.work_buffer.specs.Places.{place, sample, put, Seconds, SecondRows, Narrow, Workable};
+ghost use Rattle.work_buffer.specs.Buffer.{zeroed};
 ghost use Rattle.update.specs.Update.{put-mixed};
-ghost use Rattle.update.specs.Calls.{update-questions, number-of-answer, update-list, zeroed, UpdateResult};
-ghost use Rattle.update.specs.Places.{place, sample, put, Seconds, SecondRows, Narrow, Updatable, with-mixed};
+ghost use Rattle.update.specs.Calls.{update-questions, number-of-answer, update-list, UpdateResult};
+ghost use Rattle.update.specs.Places.{with-mixed};
 
 // What the update call answers.
 pub enum UpdateAnswer {
@@ -31,20 +31,6 @@ impl UpdateAnswer {
     }
 }
 
-// A sample as a signed number, and back.
-fn widened(x: u16) -> i32
-    ensures { λ r. ⌜ r ≡ pos x ⌝ }
-{
-    x as i32
-}
-
-fn narrowed(z: i32) -> u16
-    requires { ⌜ T (nonNeg z) × (natAbs z ≤ 65535) ⌝ }
-    ensures { λ r. ⌜ r ≡ natAbs z ⌝ }
-{
-    z as u16
-}
-
 // Every second sample of a row, n of them from `from` on: into the work buffer, from `to` on.
 fn gather_row(green: &[u16], from: usize, n: usize, work: &mut [i32], to: usize)
     requires { ⌜ Seconds (now green) from n × (to + n ≤ length (now work)) ⌝ }
@@ -52,7 +38,7 @@ fn gather_row(green: &[u16], from: usize, n: usize, work: &mut [i32], to: usize)
 {
     let mut k = 0;
     while k < n {
-        work[to + k] = widened(green[from + 2 * k]);
+        work[to + k] = work_buffer::widened(green[from + 2 * k]);
         k += 1;
     }
 }
@@ -76,7 +62,7 @@ fn scatter_row(work: &[i32], at: usize, n: usize, green: &mut [u16], from: usize
 {
     let mut k = 0;
     while k < n {
-        green[from + 2 * k] = narrowed(work[at + k]);
+        green[from + 2 * k] = work_buffer::narrowed(work[at + k]);
         k += 1;
     }
 }
@@ -104,7 +90,7 @@ fn update_places(
     green: &mut [u16],
     work: &mut [i32],
 )
-    requires { ⌜ Updatable width height (now mosaic) (now green) (length (now work)) × (a < 2) × (b < 2) ⌝ }
+    requires { ⌜ Workable width height (now mosaic) (now green) (length (now work)) × (a < 2) × (b < 2) ⌝ }
     ensures { λ _. ⌜ now (green .exit) ≡ listing width height (put-mixed ceiling width height a b (plane-of 0 width (now (mosaic .entry))) (plane-of 0 width (now (green .entry))) (plane-of 0 width (now (green .entry)))) ⌝ }
     ensures { λ _. ⌜ now (work .exit) ≡ with-mixed ceiling width height a b (now (mosaic .entry)) (now (green .entry)) (now (work .entry)) ⌝ }
 {
@@ -115,18 +101,6 @@ fn update_places(
     gather(green, from, down, columns, rows, work);
     projection::project(work, 0, mosaic, from, down, 2, columns, rows, 0, 0, 4095);
     scatter(work, columns, rows, green, from, down);
-}
-
-// The first n numbers of the work buffer to 0.
-fn zero(work: &mut [i32], n: usize)
-    requires { ⌜ n ≤ length (now work) ⌝ }
-    ensures { λ _. ⌜ now (work .exit) ≡ overwrite (now (work .entry)) 0 n (λ k. pos 0) ⌝ }
-{
-    let mut k = 0;
-    while k < n {
-        work[k] = 0;
-        k += 1;
-    }
 }
 
 // Questions 1, 2, 3, 6, 8, 9 and 10, of a work buffer that has room for so many numbers.
@@ -172,7 +146,7 @@ fn update_colours(
     green: &mut [u16],
     work: &mut [i32],
 )
-    requires { ⌜ Updatable width height (now mosaic) (now green) (length (now work)) ⌝ }
+    requires { ⌜ Workable width height (now mosaic) (now green) (length (now work)) ⌝ }
     ensures { λ _. ⌜ now (green .exit) ≡ update-list ceiling (frame width height layout (now (mosaic .entry))) (now (green .entry)) ⌝ }
     ensures { λ _. ⌜ now (work .exit) ≡ zeroed width height (now (work .entry)) ⌝ }
 {
@@ -182,7 +156,7 @@ fn update_colours(
     let blue_column = 1 - red_column;
     update_places(width, height, blue_row, blue_column, mosaic, green, work);
     update_places(width, height, red_row, red_column, mosaic, green, work);
-    zero(work, 8 * (width * height));
+    work_buffer::zero(work, 8 * (width * height));
 }
 
 // Updates the green estimate of a mosaic in place. The work buffer's first 8 · width · height numbers are scratch.

@@ -5,8 +5,8 @@ use Prim.Native.Nat.{ℕ}
 use native.Mathlib.Omega.{arith}
 use denote.Ref.{now}
 use borrow.Author.Needs.{needs}
-use Rattle.turns.specs.Frames.{Frame, frame}
-use Rattle.estimate.specs.Calls.{Planes, planes, lengths, estimate-lists}
+use Rattle.turns.specs.Frames.{Frame, Planes, planes, lengths, frame}
+use Rattle.estimate.specs.Calls.{estimate-lists}
 use Rattle.estimate.proofs.Calls.{Estimable, estimable, estimate-no, estimate-yes}
 use Rattle.estimate.proofs.estimate.Statement.{statement}
 use Rattle.estimate.proofs.estimate.Tie as tie

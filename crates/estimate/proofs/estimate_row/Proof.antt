@@ -6,15 +6,15 @@ use native.Mathlib.Omega.{arith}
 use denote.Ref.{now}
 use borrow.Author.Needs.{needs}
 use borrow.Author.Tests.{ltb-true}
-use Rattle.turns.specs.Frames.{plane-of}
+use Rattle.turns.specs.Frames.{plane-of, Planes}
 use Rattle.turns.proofs.Frames.{row-room}
-use Rattle.estimate.specs.Estimates.{Pixel, estimate}
+use Rattle.estimate.specs.Estimates.{estimate}
 use Rattle.estimate.proofs.Parts.{one-part}
 use Rattle.estimate.proofs.estimate_row.Statement.{statement}
 use Rattle.estimate.proofs.estimate_row.Tie as tie
 
 -- the row's estimates, and its room in the planes
-abbrev Row : tie.Start → (Pixel → ℕ) → ℕ → ℕ
+abbrev Row : tie.Start → (Planes ℕ → ℕ) → ℕ → ℕ
 Row s x j = let a = s .args in x (estimate (a .top) (a .width) (a .height) (a .layout) (plane-of 0 (a .width) (now (a .mosaic))) (a .r) j)
 
 room : (s : tie.Start) → let a = s .args in a .r * a .width + a .width ≤ a .width * a .height

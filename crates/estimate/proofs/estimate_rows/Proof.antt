@@ -5,9 +5,9 @@ use Prim.Native.Nat.{ℕ, _-_, _≤_}
 use native.Mathlib.Omega.{arith}
 use lib.ListN.{length}
 use denote.Ref.{now}
-use Rattle.turns.specs.Frames.{plane-of}
+use Rattle.turns.specs.Frames.{plane-of, Planes}
 use Rattle.turns.proofs.Frames.{overwrite-no-row}
-use Rattle.estimate.specs.Estimates.{Pixel, estimate}
+use Rattle.estimate.specs.Estimates.{estimate}
 use Rattle.turns.proofs.Frames.{rows-laid, row-laid, all-laid}
 use Rattle.estimate.proofs.estimate_rows.Statement.{statement}
 use Rattle.estimate.proofs.estimate_rows.Tie as tie
@@ -23,7 +23,7 @@ abbrev μ-loop : tie.MeasureT-loop
 abbrev Entry : tie.At-loop Inv-loop μ-loop → tie.Start Inv-loop μ-loop
 Entry l = l .before .before .before .before .before
 
-abbrev Plane : tie.Start Inv-loop μ-loop → (Pixel → ℕ) → ℕ → ℕ → ℕ
+abbrev Plane : tie.Start Inv-loop μ-loop → (Planes ℕ → ℕ) → ℕ → ℕ → ℕ
 Plane s x i j = let a = s .args in x (estimate (a .top) (a .width) (a .height) (a .layout) (plane-of 0 (a .width) (now (a .mosaic))) i j)
 
 loop-holds : tie.Need-loop-holds Inv-loop μ-loop

@@ -8,8 +8,8 @@ use denote.Ref.{now}
 use borrow.Author.Needs.{needs}
 use Rattle.integers.specs.Lists.{overwrite}
 use Rattle.integers.proofs.Lists.{overwrite-none, overwrite-step}
-use Rattle.turns.specs.Frames.{plane-of}
-use Rattle.estimate.specs.Estimates.{Pixel, estimate-at, estimate}
+use Rattle.turns.specs.Frames.{plane-of, Planes}
+use Rattle.estimate.specs.Estimates.{estimate-at, estimate}
 use Rattle.estimate.proofs.Neighbours.{inner-from}
 use Rattle.estimate.proofs.Parts.{part-room, part-laid}
 use Rattle.estimate.proofs.Places.{placed}
@@ -35,7 +35,7 @@ place-fits : (c : tie.In-loop Inv-loop μ-loop) → let a = Entry (c .before) .a
 place-fits c = omega (arith, part-fits (Entry (c .before)), c .loop-test .taken)
 
 -- the estimates of the part
-abbrev Row : tie.Start Inv-loop μ-loop → (Pixel → ℕ) → ℕ → ℕ
+abbrev Row : tie.Start Inv-loop μ-loop → (Planes ℕ → ℕ) → ℕ → ℕ
 Row s x j = let a = s .args in x (estimate (a .top) (a .width) (a .height) (a .layout) (plane-of 0 (a .width) (now (a .mosaic))) (a .r) (a .first + j))
 
 mul-at : tie.Need-mul-at Inv-loop μ-loop

@@ -9,7 +9,7 @@ use lib.ListN.{length}
 use denote.Ref.{now}
 use Rattle.integers.specs.Lists.{overwrite}
 use Rattle.turns.proofs.Frames.{row-room, overwrite-no-row, overwrite-row}
-use Rattle.update.specs.Places.{place, sample}
+use Rattle.work_buffer.specs.Places.{place, sample}
 use Rattle.update.proofs.gather.Statement.{statement}
 use Rattle.update.proofs.gather.Tie as tie
 

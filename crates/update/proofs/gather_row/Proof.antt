@@ -10,7 +10,7 @@ use mir.Syntax.{w32}
 use Rattle.integers.specs.Lists.{overwrite}
 use Rattle.integers.proofs.Lists.{overwrite-none, overwrite-step}
 use Rattle.integers.proofs.Bounds.{read-is}
-use Rattle.update.specs.Places.{sample}
+use Rattle.work_buffer.specs.Places.{sample}
 use Rattle.update.proofs.gather_row.Statement.{statement}
 use Rattle.update.proofs.gather_row.Tie as tie
 

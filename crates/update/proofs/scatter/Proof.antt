@@ -11,8 +11,8 @@ use lib.ListN.{length}
 use denote.Ref.{now}
 use Rattle.lines.specs.Lines.{value}
 use Rattle.turns.proofs.Frames.{row-room}
-use Rattle.update.specs.Places.{place, put}
-use Rattle.update.proofs.Places.{put-no-row, put-row}
+use Rattle.work_buffer.specs.Places.{place, put}
+use Rattle.work_buffer.proofs.Places.{put-no-row, put-row}
 use Rattle.update.proofs.scatter.Statement.{statement}
 use Rattle.update.proofs.scatter.Tie as tie
 
@@ -73,7 +73,7 @@ loop-again : tie.Need-loop-again Inv-loop μ-loop
 loop-again c =
     let l = c .before .before .before .before .before in
     let a = l .before .before .args in
-    (omega arith, put-row (now (a .green)) (a .from) (a .down) (a .columns) (l .loop .i) (λ k. natAbs (value (now (a .work)) k)) (l .loop .inv .1) (c .before .before .scatter-row .ensures), omega arith)
+    (omega arith, put-row (now (a .green)) (a .from) (a .down) (a .columns) (l .loop .i) (λ k. natAbs (value (now (a .work)) k)) _ (λ k b. refl) (l .loop .inv .1) (c .before .before .scatter-row .ensures), omega arith)
 
 same-length : tie.Need-same-length Inv-loop μ-loop
 same-length c = c .before .loop .inv .2

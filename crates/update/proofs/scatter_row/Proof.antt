@@ -12,8 +12,8 @@ use mir.Syntax.{w32}
 use mir.Val.{toZ, ofZ}
 use borrow.Author.Needs.{needs}
 use Rattle.lines.specs.Lines.{value}
-use Rattle.update.specs.Places.{put}
-use Rattle.update.proofs.Places.{put-none, put-step}
+use Rattle.work_buffer.specs.Places.{put}
+use Rattle.work_buffer.proofs.Places.{put-none, put-step}
 use Rattle.update.proofs.scatter_row.Statement.{statement}
 use Rattle.update.proofs.scatter_row.Tie as tie
 

@@ -3,7 +3,7 @@
 use denote.Ref.{now}
 use borrow.Author.Needs.{needs}
 use Rattle.turns.specs.Frames.{Frame, frame}
-use Rattle.update.proofs.Calls.{updatable, update-no, update-yes}
+use Rattle.update.proofs.Calls.{workable, update-no, update-yes}
 use Rattle.update.proofs.update.Statement.{statement}
 use Rattle.update.proofs.update.Tie as tie
 
@@ -28,7 +28,7 @@ update-colours-requires c κs =
     let e = c .before .before in
     let s = e .before .before .before .before .before in
     let t = e .before .update-refusal in
-    updatable (Given s) (now (s .args .green)) _ (t .result) (t .ensures) (e .if1 .left)
+    workable (Given s) (now (s .args .green)) _ (t .result) (t .ensures) (e .if1 .left)
 
 same-length-2 : tie.Need-same-length-2
 same-length-2 c = search needs

@@ -4,7 +4,7 @@ use native.Mathlib.Omega.{arith}
 use denote.Ref.{now}
 use borrow.Author.Needs.{needs}
 use Rattle.turns.specs.Layout.{red-row, red-column}
-use Rattle.update.specs.Calls.{zeroed}
+use Rattle.work_buffer.specs.Buffer.{zeroed}
 use Rattle.update.proofs.Calls.{both-colours, all-zero}
 use Rattle.update.proofs.update_colours.Statement.{statement}
 use Rattle.update.proofs.update_colours.Tie as tie

@@ -7,8 +7,9 @@ use lib.ListN.{length}
 use denote.Ref.{now}
 use borrow.Author.Needs.{needs}
 use Rattle.questions.specs.Questions.{ceiling}
-use Rattle.update.specs.Update.{places}
-use Rattle.update.proofs.Places.{few-places, small-rows, projected-narrow, projectable, mixed-laid, green-laid}
+use Rattle.work_buffer.specs.Places.{places}
+use Rattle.work_buffer.proofs.Places.{few-places, small-rows}
+use Rattle.update.proofs.Places.{projected-narrow, projectable, mixed-laid, green-laid}
 use Rattle.update.proofs.update_places.Statement.{statement}
 use Rattle.update.proofs.update_places.Tie as tie
 
@@ -51,7 +52,7 @@ gather-requires c κs =
     let s = c .before .before .before .before in
     let a = s .args in
     let u = s .pre .0 in
-    (small-rows (a .width) (a .height) (a .a) (a .b) (s .pre .1) (s .pre .2) (now (a .green)) (u .estimate) (u .width-from), room s)
+    (small-rows (a .width) (a .height) (a .a) (a .b) (s .pre .1) (s .pre .2) (now (a .green)) (u .greens) (u .width-from), room s)
 
 project-requires : tie.Need-project-requires
 unfolding places
@@ -73,7 +74,7 @@ scatter-requires c κs =
     let a = s .args in
     let u = s .pre .0 in (
       projected-narrow _ _ _ _ _ _ _ _ (omega arith) (omega (arith, room s, g .gather .kept)) (p .project .ensures),
-      small-rows (a .width) (a .height) (a .a) (a .b) (s .pre .1) (s .pre .2) (now (a .green)) (u .estimate) (u .width-from),
+      small-rows (a .width) (a .height) (a .a) (a .b) (s .pre .1) (s .pre .2) (now (a .green)) (u .greens) (u .width-from),
     )
 
 same-length : tie.Need-same-length
@@ -91,7 +92,7 @@ returns c =
     let a = s .args in
     let m = now (a .mosaic) in
     let laid = mixed-laid (a .width) (a .height) (a .a) (a .b) (s .pre .1) (s .pre .2) m (now (a .green)) (now (a .work)) (room s) (g .gather .ensures) ceiling (p .project .ensures) in
-    (green-laid (a .width) (a .height) (a .a) (a .b) (s .pre .1) (s .pre .2) m (now (a .green)) (now (a .work)) (room s) ceiling laid (s .pre .0 .estimate) (c .before .before .scatter .ensures), laid)
+    (green-laid (a .width) (a .height) (a .a) (a .b) (s .pre .1) (s .pre .2) m (now (a .green)) (now (a .work)) (room s) ceiling laid (s .pre .0 .greens) (c .before .before .scatter .ensures), laid)
 
 pub update-places-spec : {M : Type 1} → statement M
 update-places-spec =

@@ -1,4 +1,4 @@
--- `update::zero` meets its contract: after k turns, k numbers are 0.
+-- `work_buffer::zero` meets its contract: after k turns, k numbers are 0.
 -- Assumes nothing.
 use mathlib.Core.Path.{_≡_, refl, _∙_, ap}
 use Prim.Native.Nat.{ℕ, _-_, _≤_}
@@ -8,8 +8,8 @@ use lib.ListN.{length, length-set}
 use denote.Ref.{now}
 use Rattle.integers.specs.Lists.{overwrite}
 use Rattle.integers.proofs.Lists.{overwrite-none, overwrite-step}
-use Rattle.update.proofs.zero.Statement.{statement}
-use Rattle.update.proofs.zero.Tie as tie
+use Rattle.work_buffer.proofs.zero.Statement.{statement}
+use Rattle.work_buffer.proofs.zero.Tie as tie
 
 abbrev Inv-loop : tie.InvT-loop
 Inv-loop work₀ n k₀ work k = (k ≤ n) × (work ≡ overwrite work₀ 0 k (λ j. pos 0)) × (length work ≡ length work₀)

@@ -1,4 +1,4 @@
--- `update::narrowed` meets its contract: a number of 0 to 65,535 is one of 16 bits.
+-- `work_buffer::narrowed` meets its contract: a number of 0 to 65,535 is one of 16 bits.
 -- Assumes nothing.
 use mathlib.Core.Path.{sym, ap, subst}
 use native.Mathlib.Omega.{arith}
@@ -6,8 +6,8 @@ use lib.Dec.{T}
 use lib.IntN.{ℤ, natAbs}
 use lib.Signed.{nonNeg}
 use mir.Facts.{toZ-ofZ as back}
-use Rattle.update.proofs.narrowed.Statement.{statement}
-use Rattle.update.proofs.narrowed.Tie as tie
+use Rattle.work_buffer.proofs.narrowed.Statement.{statement}
+use Rattle.work_buffer.proofs.narrowed.Tie as tie
 
 cast-result : tie.Need-cast-result
 cast-result c = let e = back (c .fits .z) in (subst (λ (z : ℤ). T (nonNeg z)) (sym e) (c .pre .0), record { fits = omega (arith, ap natAbs e, c .pre .1) })

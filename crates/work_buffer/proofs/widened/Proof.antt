@@ -1,11 +1,11 @@
--- `update::widened` meets its contract: every 16-bit number is one of 32 bits.
+-- `work_buffer::widened` meets its contract: every 16-bit number is one of 32 bits.
 -- Assumes nothing.
 use native.Mathlib.Omega.{arith}
 use mir.Syntax.{w32}
 use mir.Facts.{toZ-pos}
 use borrow.Author.Needs.{needs}
-use Rattle.update.proofs.widened.Statement.{statement}
-use Rattle.update.proofs.widened.Tie as tie
+use Rattle.work_buffer.proofs.widened.Statement.{statement}
+use Rattle.work_buffer.proofs.widened.Tie as tie
 
 cast-result : tie.Need-cast-result
 cast-result c = search needs

@@ -1,0 +1,4 @@
+pub mod Repeated
+pub mod Turned
+pub mod Working
+pub mod Calls

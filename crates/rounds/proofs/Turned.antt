@@ -1,0 +1,106 @@
+-- A round commutes with every turn, and so do n rounds. Assumes nothing.
+use mathlib.Core.Path.{_≡_, refl, sym, _∙_, ap}
+use mathlib.Core.Bool.{Bool, true, false, cond, not, _&&_}
+use Prim.Native.Nat.{ℕ, zero, suc, _-_, _%_}
+use lib.Dec.{eqb}
+use lib.IntN.{ℤ, pos, natAbs}
+use Rattle.turns.specs.Layout.{red-row, red-column, on-red-row, on-red-column}
+use Rattle.turns.specs.Frames.{Planes, planes}
+use Rattle.turns.specs.Operations.{Operation}
+use Rattle.turns.specs.Pictures.{Picture, turned, _≈_}
+use Rattle.turns.proofs.Pictures.{row-lt, column-lt}
+use Rattle.turns.proofs.Commuting.{Commutes, same, composed, paired, pointwise, by-parities, commutes-by, apply, apply-turned}
+use Rattle.projection.specs.Projection.{projected}
+use Rattle.projection.proofs.Projection.{projected-commutes}
+use Rattle.work_buffer.proofs.Places.{other-parity}
+use Rattle.rounds.specs.Rounds.{limit-of, put-observed, round, after-rounds, rewritten, rounds}
+use Rattle.rounds.proofs.Repeated.{round-projected}
+
+-- ---- a colour
+-- By its parities in each layout, and by which places are its: whether their row, and their column, have red's parity.
+pub record Coloured : Type 0 where
+  pub row : ℕ → ℕ
+  pub column : ℕ → ℕ
+  pub own : Bool → Bool → Bool
+  pub is : (l r c : ℕ) → (eqb (r % 2) (row l) && eqb (c % 2) (column l)) ≡ own (on-red-row l r) (on-red-column l c)
+  pub exchange : (a b : Bool) → own b a ≡ own a b
+
+and-exchange : (a b : Bool) → (b && a) ≡ (a && b)
+and-exchange true true = refl
+and-exchange true false = refl
+and-exchange false true = refl
+and-exchange false false = refl
+
+pub reds : Coloured
+reds = record {
+  row = red-row;
+  column = red-column;
+  own = _&&_;
+  is = λ l r c. unfold on-red-row on-red-column in refl;
+  exchange = and-exchange;
+}
+
+-- blue has the other parity in row and in column
+pub blues : Coloured
+blues = record {
+  row = λ l. 1 - red-row l;
+  column = λ l. 1 - red-column l;
+  own = λ a b. not a && not b;
+  is = λ l r c. unfold on-red-row on-red-column in (λ m. other-parity r (red-row l) (row-lt l) m && other-parity c (red-column l) (column-lt l) m);
+  exchange = λ a b. and-exchange (not a) (not b);
+}
+
+-- ---- its rounds; a place has its mosaic sample, its green, and its value in the working plane
+module _ (top threshold : ℕ) (k : Coloured) where
+  -- one
+  abbrev pub round-of : Operation (ℕ × ℕ × ℤ) ℤ
+  round-of w h l p = round top threshold w h (k .row l) (k .column l) (λ i j. p i j .0) (λ i j. p i j .1) (λ i j. p i j .2)
+
+  -- the projection on green, beside the mosaic
+  projected-of : Operation (ℕ × ℕ × ℤ) (ℕ × ℤ)
+  projected-of w h l p r c = (p r c .0, projected (limit-of threshold) (pos 0) (pos top) w h (λ i j. pos (p i j .1)) (λ i j. p i j .2) r c)
+
+  pub round-commutes : Commutes same same round-of
+  unfolding projected-of put-observed
+  round-commutes =
+      commutes-by {F = λ w h l p r c. cond (k .own (on-red-row l r) (on-red-column l c)) (pos (projected-of w h l p r c .0)) (projected-of w h l p r c .1)}
+      (λ w h l p r c. sym (round-projected top threshold w h (k .row l) (k .column l) (λ i j. p i j .0) (λ i j. p i j .1) (λ i j. p i j .2) r c ∙ (λ m. cond (k .is l r c m) (pos (p r c .0)) (projected-of w h l p r c .1))))
+      (composed {F = projected-of}
+      (paired {B = ℕ} {C = ℤ} (pointwise {A = ℕ × ℕ × ℤ} same same (λ x. x .0) (λ x. refl))
+      (composed (pointwise {A = ℕ × ℕ × ℤ} {B = ℤ × ℤ} same same (λ x. (pos (x .1), x .2)) (λ x. refl)) (projected-commutes (limit-of threshold) (pos 0) (pos top))))
+      (by-parities {A = ℕ × ℤ} same same (λ a b x. cond (k .own a b) (pos (x .0)) (x .1)) (λ a b x. λ m. cond (k .exchange a b m) (pos (x .0)) (x .1))))
+
+  -- n
+  abbrev pub rounds-of : ℕ → Operation (ℕ × ℕ × ℤ) ℤ
+  rounds-of n w h l p = after-rounds top threshold n w h (k .row l) (k .column l) (λ i j. p i j .0) (λ i j. p i j .1) (λ i j. p i j .2)
+
+  pub after-rounds-commute : (n : ℕ) → Commutes same same (rounds-of n)
+  unfolding after-rounds
+  after-rounds-commute zero = pointwise {A = ℕ × ℕ × ℤ} same same (λ x. x .2) (λ x. refl)
+  after-rounds-commute (suc n) =
+      composed {F = λ w h l p r c. (p r c .0, p r c .1, rounds-of n w h l p r c)} {G = round-of}
+      (composed {B = (ℕ × ℕ) × ℤ} {F = λ w h l p r c. ((p r c .0, p r c .1), rounds-of n w h l p r c)}
+      (paired (pointwise {A = ℕ × ℕ × ℤ} {B = ℕ × ℕ} same same (λ x. (x .0, x .1)) (λ x. refl)) (after-rounds-commute n))
+      (pointwise {B = ℕ × ℕ × ℤ} same same (λ x. (x .0 .0, x .0 .1, x .1)) (λ x. refl)))
+      round-commutes
+
+-- ---- the three planes
+-- a colour's samples after n rounds, from what a place has of the mosaic, of green and of the colour
+rewritten-commutes : (top threshold n : ℕ) (k : Coloured) (plane : Planes ℕ → ℕ)
+    → Commutes {A = ℕ × Planes ℕ} same same (λ w h l p. rewritten top threshold n w h (k .row l) (k .column l) (λ i j. p i j .0) (λ i j. p i j .1 .green) (λ i j. plane (p i j .1)))
+unfolding rewritten
+rewritten-commutes top threshold n k plane =
+    composed (pointwise {A = ℕ × Planes ℕ} {B = ℕ × ℕ × ℤ} same same (λ x. (x .0, x .1 .green, pos (plane (x .1)))) (λ x. refl))
+    (composed (after-rounds-commute top threshold k n) (pointwise same same natAbs (λ z. refl)))
+
+-- the rounds see only what is inside, and commute with every turn
+pub rounds-commute : (top threshold n : ℕ) → Commutes same same (rounds top threshold n)
+unfolding rounds reds blues
+rounds-commute top threshold n =
+    composed {B = (ℕ × ℕ) × ℕ}
+    (paired (paired {B = ℕ} {C = ℕ} (rewritten-commutes top threshold n reds (λ x. x .red)) (pointwise {A = ℕ × Planes ℕ} same same (λ x. x .1 .green) (λ x. refl))) (rewritten-commutes top threshold n blues (λ x. x .blue)))
+    (pointwise same same (λ x. planes (x .0 .0) (x .0 .1) (x .1)) (λ x. refl))
+
+-- the rounds of a turned picture are the rounds' planes turned
+pub rounds-turned : (top threshold n t : ℕ) (p : Picture (ℕ × Planes ℕ)) → apply (rounds top threshold n) (turned t p) ≈ turned t (apply (rounds top threshold n) p)
+rounds-turned top threshold n = apply-turned (rounds-commute top threshold n)

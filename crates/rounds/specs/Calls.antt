@@ -1,0 +1,56 @@
+-- The rounds call: what it asks, and what its answer, its planes and its work buffer are then. Assumes nothing.
+use mathlib.Core.Path.{_≡_}
+use mathlib.Core.List.{List, [], _∷_, _++_}
+use Prim.Native.Nat.{ℕ, _*_, _-_}
+use lib.Dec.{eqb, leb}
+use lib.IntN.{ℤ}
+use lib.ListN.{length}
+use Rattle.questions.specs.Questions.{Question, question, ceiling, all-at-most, frame-questions, samples-question}
+use Rattle.questions.specs.Answers.{Answered, if-accepted}
+use Rattle.turns.specs.Layout.{red-row, red-column}
+use Rattle.turns.specs.Frames.{Frame, Planes, planes, listing, plane-of}
+use Rattle.work_buffer.specs.Buffer.{zeroed}
+use Rattle.rounds.specs.Rounds.{rewritten}
+use Rattle.rounds.specs.declared.RoundsAnswer.{RoundsAnswer}
+use Rattle.rounds.specs.declared.RoundsAnswer.the-variants as rounds-answer
+
+-- ---- the questions, in document 01's order
+-- 6 of the mosaic and 7 of the three planes, where a plane has `count` samples, 8, 9, and 10 of the three planes
+abbrev pub buffer-questions : ℕ → List ℕ → Planes (List ℕ) → ℕ → List Question
+buffer-questions count mosaic given room =
+    question 6 (eqb (length mosaic) count)
+    ∷ question 7 (eqb (length (given .red)) count) ∷ question 7 (eqb (length (given .green)) count) ∷ question 7 (eqb (length (given .blue)) count)
+    ∷ question 8 (leb (8 * count) room)
+    ∷ samples-question ceiling mosaic
+    ∷ question 10 (all-at-most ceiling (given .red)) ∷ question 10 (all-at-most ceiling (given .green)) ∷ question 10 (all-at-most ceiling (given .blue))
+    ∷ []
+
+-- 1 to 5, and then those
+abbrev pub rounds-questions : Frame → ℕ → ℕ → Planes (List ℕ) → ℕ → List Question
+rounds-questions f rounds threshold given room =
+    frame-questions ceiling (f .width) (f .height) (f .layout) rounds threshold ++ buffer-questions (f .width * f .height) (f .samples) given room
+
+-- document 01's number of an answer
+abbrev pub number-of-answer : RoundsAnswer → ℕ
+number-of-answer rounds-answer.Accepted = 0
+number-of-answer (rounds-answer.Refused number) = number
+
+-- ---- what is promised
+-- the plane of the colour with these parities after the rounds, row by row
+unfoldable pub rewritten-list : ℕ → Frame → ℕ → ℕ → ℕ → ℕ → List ℕ → List ℕ → List ℕ
+rewritten-list top f threshold n a b green plane =
+    listing (f .width) (f .height) (rewritten top threshold n (f .width) (f .height) a b (plane-of 0 (f .width) (f .samples)) (plane-of 0 (f .width) green) (plane-of 0 (f .width) plane))
+
+-- red and blue rewritten; green stays
+unfoldable pub rounds-lists : ℕ → Frame → ℕ → ℕ → Planes (List ℕ) → Planes (List ℕ)
+rounds-lists top f threshold n given =
+    planes (rewritten-list top f threshold n (red-row (f .layout)) (red-column (f .layout)) (given .green) (given .red))
+    (given .green)
+    (rewritten-list top f threshold n (1 - red-row (f .layout)) (1 - red-column (f .layout)) (given .green) (given .blue))
+
+-- The rounds call, given frame f, so many rounds, a threshold, three planes that held `given` and a work buffer that held `work`: its
+-- answer r, and what the planes and the buffer hold after.
+pub record RoundsResult (f : Frame) (rounds threshold : ℕ) (given : Planes (List ℕ)) (work : List ℤ) (r : RoundsAnswer) (after : Planes (List ℕ)) (work-after : List ℤ) : Type 0 where
+  pub answer : Answered number-of-answer (rounds-questions f rounds threshold given (length work)) rounds-answer.Accepted r
+  pub buffers : after ≡ if-accepted (rounds-questions f rounds threshold given (length work)) (rounds-lists ceiling f threshold rounds given) given
+  pub buffer : work-after ≡ if-accepted (rounds-questions f rounds threshold given (length work)) (zeroed (f .width) (f .height) work) work

@@ -1,0 +1,312 @@
+// Document 01's rounds.
+ghost use mathlib.Core.Path.{_≡_};
+ghost use Prim.Native.Nat.{_+_, _*_, _≤_, _<_};
+ghost use lib.IntN.{pos, natAbs};
+ghost use lib.ListN.{length};
+ghost use Rattle.integers.specs.Lists.{tabulate, overwrite};
+ghost use Rattle.questions.specs.Questions.{ceiling, ask};
+ghost use Rattle.turns.specs.Frames.{frame, planes, listing, plane-of};
+ghost use Rattle.lines.specs.Lines.{value};
+ghost use Rattle.work_buffer.specs.Places.{place, sample, put, Seconds, SecondRows, Narrow, Workable};
+ghost use Rattle.work_buffer.specs.Buffer.{with-plane, zeroed};
+ghost use Rattle.rounds.specs.Rounds.{limit-of, round, after-rounds, rewritten};
+ghost use Rattle.rounds.specs.Calls.{buffer-questions, rounds-questions, number-of-answer, rounds-lists, RoundsResult};
+
+// What the rounds call answers.
+pub enum RoundsAnswer {
+    Accepted,
+    Refused(u32),
+}
+
+impl RoundsAnswer {
+    // Document 01's number of a refusal, or 0.
+    pub fn number(self) -> u32
+        ensures { λ r. ⌜ r ≡ number-of-answer self ⌝ }
+    {
+        match self {
+            RoundsAnswer::Accepted => 0,
+            RoundsAnswer::Refused(number) => number,
+        }
+    }
+}
+
+// A plane's samples into the work buffer's first numbers: the working plane.
+fn load(plane: &[u16], work: &mut [i32])
+    requires { ⌜ length (now plane) ≤ length (now work) ⌝ }
+    ensures { λ _. ⌜ now (work .exit) ≡ overwrite (now (work .entry)) 0 (length (now (plane .entry))) (sample (now (plane .entry))) ⌝ }
+{
+    let mut k = 0;
+    while k < plane.len() {
+        work[k] = work_buffer::widened(plane[k]);
+        k += 1;
+    }
+}
+
+// The working plane back into a plane of samples.
+fn store(work: &[i32], plane: &mut [u16])
+    requires { ⌜ Narrow (now work) 0 (length (now plane)) ⌝ }
+    ensures { λ _. ⌜ now (plane .exit) ≡ tabulate (length (now (plane .entry))) (λ k. natAbs (value (now (work .entry)) k)) ⌝ }
+{
+    let mut k = 0;
+    while k < plane.len() {
+        plane[k] = work_buffer::narrowed(work[k]);
+        k += 1;
+    }
+}
+
+// Every second sample of a row, n of them from `from` on, into the same places of the working plane.
+fn observe_row(mosaic: &[u16], from: usize, n: usize, work: &mut [i32])
+    requires { ⌜ Seconds (now mosaic) from n × (length (now mosaic) ≤ length (now work)) ⌝ }
+    ensures { λ _. ⌜ now (work .exit) ≡ put (now (work .entry)) n (λ k. from + 2 * k) (λ k. sample (now (mosaic .entry)) (from + 2 * k)) ⌝ }
+{
+    let mut k = 0;
+    while k < n {
+        let at = from + 2 * k;
+        work[at] = work_buffer::widened(mosaic[at]);
+        k += 1;
+    }
+}
+
+// The observed samples of a colour into its working plane. Its rows stand `down` apart.
+fn observe(mosaic: &[u16], from: usize, down: usize, columns: usize, rows: usize, work: &mut [i32])
+    requires { ⌜ SecondRows (now mosaic) from down columns rows × (length (now mosaic) ≤ length (now work)) ⌝ }
+    ensures { λ _. ⌜ now (work .exit) ≡ put (now (work .entry)) (columns * rows) (place from down columns) (λ k. sample (now (mosaic .entry)) (place from down columns k)) ⌝ }
+{
+    let mut i = 0;
+    while i < rows {
+        observe_row(mosaic, from + i * down, columns, work);
+        i += 1;
+    }
+}
+
+// How far a detail may be from green's.
+fn limit_of(threshold: u16) -> i32
+    ensures { λ r. ⌜ r ≡ limit-of threshold ⌝ }
+{
+    16 * work_buffer::widened(threshold)
+}
+
+// A round of the working plane of the colour whose places have the parities a in row and b in column.
+fn round(
+    width: usize,
+    height: usize,
+    a: usize,
+    b: usize,
+    threshold: u16,
+    mosaic: &[u16],
+    green: &[u16],
+    work: &mut [i32],
+)
+    requires { ⌜ Workable width height (now mosaic) (now green) (length (now work)) × (a < 2) × (b < 2) × Narrow (now work) 0 (width * height) ⌝ }
+    ensures { λ _. ⌜ now (work .exit) ≡ with-plane width height (round ceiling threshold width height a b (plane-of 0 width (now (mosaic .entry))) (plane-of 0 width (now (green .entry))) (plane-of (pos 0) width (now (work .entry)))) (now (work .entry)) ⌝ }
+{
+    let limit = limit_of(threshold);
+    projection::project(work, 0, green, 0, width, 1, width, height, limit, 0, 4095);
+    let columns = (width + 1 - b) / 2;
+    let rows = (height + 1 - a) / 2;
+    observe(mosaic, a * width + b, 2 * width, columns, rows, work);
+}
+
+// So many rounds of it.
+fn run(
+    width: usize,
+    height: usize,
+    a: usize,
+    b: usize,
+    rounds: u8,
+    threshold: u16,
+    mosaic: &[u16],
+    green: &[u16],
+    work: &mut [i32],
+)
+    requires { ⌜ Workable width height (now mosaic) (now green) (length (now work)) × (a < 2) × (b < 2) × Narrow (now work) 0 (width * height) ⌝ }
+    ensures { λ _. ⌜ now (work .exit) ≡ with-plane width height (after-rounds ceiling threshold rounds width height a b (plane-of 0 width (now (mosaic .entry))) (plane-of 0 width (now (green .entry))) (plane-of (pos 0) width (now (work .entry)))) (now (work .entry)) ⌝ }
+{
+    let mut n = 0;
+    while n < rounds {
+        round(width, height, a, b, threshold, mosaic, green, work);
+        n += 1;
+    }
+}
+
+// A colour's plane: loaded, worked on through all rounds, and stored once.
+fn rewrite(
+    width: usize,
+    height: usize,
+    a: usize,
+    b: usize,
+    rounds: u8,
+    threshold: u16,
+    mosaic: &[u16],
+    green: &[u16],
+    plane: &mut [u16],
+    work: &mut [i32],
+)
+    requires { ⌜ Workable width height (now mosaic) (now green) (length (now work)) × (a < 2) × (b < 2) × (length (now plane) ≡ width * height) ⌝ }
+    ensures { λ _. ⌜ now (plane .exit) ≡ listing width height (rewritten ceiling threshold rounds width height a b (plane-of 0 width (now (mosaic .entry))) (plane-of 0 width (now (green .entry))) (plane-of 0 width (now (plane .entry)))) ⌝ }
+    ensures { λ _. ⌜ now (work .exit) ≡ with-plane width height (after-rounds ceiling threshold rounds width height a b (plane-of 0 width (now (mosaic .entry))) (plane-of 0 width (now (green .entry))) (λ i j. pos (plane-of 0 width (now (plane .entry)) i j))) (now (work .entry)) ⌝ }
+{
+    load(plane, work);
+    run(width, height, a, b, rounds, threshold, mosaic, green, work);
+    store(work, plane);
+}
+
+// Questions 6, 7, 8, 9 and 10, where a plane has `count` samples and the work buffer has room for so many numbers.
+fn buffers_refusal(
+    count: usize,
+    mosaic: &[u16],
+    red: &[u16],
+    green: &[u16],
+    blue: &[u16],
+    room: usize,
+) -> u32
+    requires { ⌜ count ≤ 4194304 ⌝ }
+    ensures { λ r. ⌜ r ≡ ask (buffer-questions count (now (mosaic .entry)) (planes (now (red .entry)) (now (green .entry)) (now (blue .entry))) room) ⌝ }
+{
+    if mosaic.len() != count {
+        return 6;
+    }
+    if red.len() != count {
+        return 7;
+    }
+    if green.len() != count {
+        return 7;
+    }
+    if blue.len() != count {
+        return 7;
+    }
+    let needed = 8 * count;
+    if room < needed {
+        return 8;
+    }
+    if !questions::samples_within(4095, mosaic) {
+        return 9;
+    }
+    if !questions::samples_within(4095, red) {
+        return 10;
+    }
+    if !questions::samples_within(4095, green) {
+        return 10;
+    }
+    if !questions::samples_within(4095, blue) {
+        return 10;
+    }
+    0
+}
+
+// Questions 1 to 10.
+fn rounds_refusal(
+    width: usize,
+    height: usize,
+    layout: u8,
+    rounds: u8,
+    threshold: u16,
+    mosaic: &[u16],
+    red: &[u16],
+    green: &[u16],
+    blue: &[u16],
+    room: usize,
+) -> u32
+    ensures { λ r. ⌜ r ≡ ask (rounds-questions (frame width height layout (now (mosaic .entry))) rounds threshold (planes (now (red .entry)) (now (green .entry)) (now (blue .entry))) room) ⌝ }
+{
+    let number = questions::frame(4095, width, height, layout, rounds, threshold);
+    if number != 0 {
+        return number;
+    }
+    buffers_refusal(width * height, mosaic, red, green, blue, room)
+}
+
+// Red, and then blue, whose places have the other parities; and the work buffer zeroed.
+fn rewrite_colours(
+    width: usize,
+    height: usize,
+    layout: u8,
+    rounds: u8,
+    threshold: u16,
+    mosaic: &[u16],
+    red: &mut [u16],
+    green: &[u16],
+    blue: &mut [u16],
+    work: &mut [i32],
+)
+    requires { ⌜ Workable width height (now mosaic) (now green) (length (now work)) ⌝ }
+    requires { ⌜ (length (now red) ≡ width * height) × (length (now blue) ≡ width * height) ⌝ }
+    ensures { λ _. ⌜ planes (now (red .exit)) (now (green .entry)) (now (blue .exit)) ≡ rounds-lists ceiling (frame width height layout (now (mosaic .entry))) threshold rounds (planes (now (red .entry)) (now (green .entry)) (now (blue .entry))) ⌝ }
+    ensures { λ _. ⌜ now (work .exit) ≡ zeroed width height (now (work .entry)) ⌝ }
+{
+    let red_row = (layout / 2 % 2) as usize;
+    let red_column = (layout % 2) as usize;
+    let blue_row = 1 - red_row;
+    let blue_column = 1 - red_column;
+    rewrite(
+        width,
+        height,
+        red_row,
+        red_column,
+        rounds,
+        threshold,
+        mosaic,
+        green,
+        red,
+        work,
+    );
+    rewrite(
+        width,
+        height,
+        blue_row,
+        blue_column,
+        rounds,
+        threshold,
+        mosaic,
+        green,
+        blue,
+        work,
+    );
+    work_buffer::zero(work, 8 * (width * height));
+}
+
+// Runs the rounds on three given planes: red and blue are rewritten in place. The work buffer's first 8 · width · height numbers are
+// scratch.
+pub fn rounds(
+    width: usize,
+    height: usize,
+    layout: u8,
+    rounds: u8,
+    threshold: u16,
+    mosaic: &[u16],
+    red: &mut [u16],
+    green: &[u16],
+    blue: &mut [u16],
+    work: &mut [i32],
+) -> RoundsAnswer
+    ensures { λ r. ⌜ RoundsResult (frame width height layout (now (mosaic .entry))) rounds threshold (planes (now (red .entry)) (now (green .entry)) (now (blue .entry))) (now (work .entry)) r (planes (now (red .exit)) (now (green .entry)) (now (blue .exit))) (now (work .exit)) ⌝ }
+{
+    let refusal = rounds_refusal(
+        width,
+        height,
+        layout,
+        rounds,
+        threshold,
+        mosaic,
+        red,
+        green,
+        blue,
+        work.len(),
+    );
+    if refusal != 0 {
+        return RoundsAnswer::Refused(refusal);
+    }
+    rewrite_colours(
+        width,
+        height,
+        layout,
+        rounds,
+        threshold,
+        mosaic,
+        red,
+        green,
+        blue,
+        work,
+    );
+    RoundsAnswer::Accepted
+}
