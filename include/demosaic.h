@@ -96,6 +96,35 @@ uint32_t demosaic_update(size_t width, size_t height, uint8_t layout,
                          const uint16_t *mosaic, size_t mosaic_length,
                          uint16_t *green, size_t green_length, int32_t *work, size_t work_length);
 
+/*
+ * The rounds of a frame: red and blue are rewritten in place, green stays. The call needs the mosaic, the three
+ * planes (of the estimate, green after the update), how many rounds, the threshold T, and a work buffer. Each
+ * round splits a colour, holds its details within 16 * T of green's, joins and brings back, and then puts the
+ * observed samples in. The call answers 0, or the number of the first question answered no; then no buffer was
+ * touched.
+ *
+ *    1  the width is 2 to 2,048?
+ *    2  the height is 2 to 2,048?
+ *    3  the layout is 0 to 3?
+ *    4  the rounds are at most 64?
+ *    5  the threshold is at most 4,095?
+ *    6  the mosaic has exactly width * height samples?
+ *    7  the three planes have exactly width * height samples each?
+ *    8  the work buffer has at least 8 * width * height numbers?
+ *    9  the mosaic's samples are at most 4,095 each?
+ *   10  the planes' samples are at most 4,095 each?
+ *
+ * With 0 rounds no plane changes. The work buffer's first 8 * width * height numbers hold 0 afterwards, with 0
+ * rounds too, and its rest is untouched.
+ *
+ * What the caller has to keep: each pointer is not null and points to as many numbers as are said, and neither
+ * red, nor blue, nor the work buffer overlaps another buffer of the call.
+ */
+uint32_t demosaic_rounds(size_t width, size_t height, uint8_t layout, uint8_t rounds, uint16_t threshold,
+                         const uint16_t *mosaic, size_t mosaic_length,
+                         uint16_t *red, size_t red_length, const uint16_t *green, size_t green_length,
+                         uint16_t *blue, size_t blue_length, int32_t *work, size_t work_length);
+
 #ifdef __cplusplus
 }
 #endif

@@ -40,37 +40,37 @@ module _ (f : Frame) (rounds threshold : ℕ) (given : Planes (List ℕ)) (room 
         width-to = s .width-to;
         height-from = s .height-from;
         height-to = s .height-to;
-        samples = eqb-true (length (f .samples)) count (y .0);
-        greens = eqb-true (length (given .green)) count (y .1 .1 .0);
-        work = leb-true (8 * count) room (y .1 .1 .1 .1 .0);
+        samples = eqb-true (length (f .samples)) count (search y);
+        greens = eqb-true (length (given .green)) count (search y);
+        work = leb-true (8 * count) room (search y);
       }
 
   pub red-long : length (given .red) ≡ count
-  red-long = eqb-true (length (given .red)) count (known .1 .1 .0)
+  red-long = let y = known .1 in eqb-true (length (given .red)) count (search y)
 
   pub blue-long : length (given .blue) ≡ count
-  blue-long = eqb-true (length (given .blue)) count (known .1 .1 .1 .1 .0)
+  blue-long = let y = known .1 in eqb-true (length (given .blue)) count (search y)
 
 -- ---- what it leaves
 -- red and blue rewritten
-pub both-colours : (top w h l threshold n : ℕ) (mosaic green red blue : List ℕ) {red' blue' : List ℕ}
-    → red' ≡ listing w h (rewritten top threshold n w h (red-row l) (red-column l) (plane-of 0 w mosaic) (plane-of 0 w green) (plane-of 0 w red))
-    → blue' ≡ listing w h (rewritten top threshold n w h (1 - red-row l) (1 - red-column l) (plane-of 0 w mosaic) (plane-of 0 w green) (plane-of 0 w blue))
-    → planes red' green blue' ≡ rounds-lists top (frame w h l mosaic) threshold n (planes red green blue)
+pub both-colours : (top w h l n threshold : ℕ) (mosaic green red blue : List ℕ) {red' blue' : List ℕ}
+    → red' ≡ listing w h (rewritten top n threshold w h (red-row l) (red-column l) (plane-of 0 w mosaic) (plane-of 0 w green) (plane-of 0 w red))
+    → blue' ≡ listing w h (rewritten top n threshold w h (1 - red-row l) (1 - red-column l) (plane-of 0 w mosaic) (plane-of 0 w green) (plane-of 0 w blue))
+    → planes red' green blue' ≡ rounds-lists top (frame w h l mosaic) n threshold (planes red green blue)
 unfolding rounds-lists rewritten-list
-both-colours top w h l threshold n mosaic green red blue p q = λ i. planes (p i) green (q i)
+both-colours top w h l n threshold mosaic green red blue p q = λ i. planes (p i) green (q i)
 
 -- They are what the operation `rounds` makes of the mosaic and the given planes, row by row.
-pub lists-are : (top : ℕ) (f : Frame) (threshold n : ℕ) (given : Planes (List ℕ)) → length (given .green) ≡ f .width * f .height
+pub lists-are : (top : ℕ) (f : Frame) (n threshold : ℕ) (given : Planes (List ℕ)) → length (given .green) ≡ f .width * f .height
     → let plane = plane-of {A = ℕ} 0 (f .width) in
-    let after = rounds top threshold n (f .width) (f .height) (f .layout) (λ r c. (plane (f .samples) r c, planes (plane (given .red) r c) (plane (given .green) r c) (plane (given .blue) r c))) in
-    rounds-lists top f threshold n given
+    let after = rounds top n threshold (f .width) (f .height) (f .layout) (λ r c. (plane (f .samples) r c, planes (plane (given .red) r c) (plane (given .green) r c) (plane (given .blue) r c))) in
+    rounds-lists top f n threshold given
     ≡ planes (listing (f .width) (f .height) (λ r c. after r c .red)) (listing (f .width) (f .height) (λ r c. after r c .green)) (listing (f .width) (f .height) (λ r c. after r c .blue))
 unfolding rounds-lists rewritten-list rounds
-lists-are top f threshold n given long = λ i.
-    planes (rewritten-list top f threshold n (red-row (f .layout)) (red-column (f .layout)) (given .green) (given .red))
+lists-are top f n threshold given long = λ i.
+    planes (rewritten-list top f n threshold (red-row (f .layout)) (red-column (f .layout)) (given .green) (given .red))
     (sym (listing-plane-of 0 (f .width) (f .height) (given .green) long) i)
-    (rewritten-list top f threshold n (1 - red-row (f .layout)) (1 - red-column (f .layout)) (given .green) (given .blue))
+    (rewritten-list top f n threshold (1 - red-row (f .layout)) (1 - red-column (f .layout)) (given .green) (given .blue))
 
 -- the work buffer zeroed, whatever planes stood in it
 pub all-zero : (w h : ℕ) (p q : ℕ → ℕ → ℤ) (work : List ℤ) → 8 * (w * h) ≤ length work → {first second last : List ℤ}
@@ -81,12 +81,12 @@ all-zero w h p q work room {first} e f g =
 
 -- with no round no plane changes
 pub no-rounds : (top : ℕ) (f : Frame) (threshold : ℕ) (given : Planes (List ℕ)) → length (given .red) ≡ f .width * f .height → length (given .blue) ≡ f .width * f .height
-    → rounds-lists top f threshold 0 given ≡ given
+    → rounds-lists top f 0 threshold given ≡ given
 unfolding rounds-lists rewritten-list
 no-rounds top f threshold given p q = λ i. planes (same (red-row (f .layout)) (red-column (f .layout)) (given .red) p i) (given .green) (same (1 - red-row (f .layout)) (1 - red-column (f .layout)) (given .blue) q i)
   where
     same : (a b : ℕ) (plane : List ℕ) → length plane ≡ f .width * f .height
-        → listing (f .width) (f .height) (rewritten top threshold 0 (f .width) (f .height) a b (plane-of 0 (f .width) (f .samples)) (plane-of 0 (f .width) (given .green)) (plane-of 0 (f .width) plane)) ≡ plane
+        → listing (f .width) (f .height) (rewritten top 0 threshold (f .width) (f .height) a b (plane-of 0 (f .width) (f .samples)) (plane-of 0 (f .width) (given .green)) (plane-of 0 (f .width) plane)) ≡ plane
     same a b plane e = listing-agree (f .width) (f .height) (λ r c hr hc. no-round top threshold (f .width) (f .height) a b _ _ (plane-of 0 (f .width) plane) r c) ∙ listing-plane-of 0 (f .width) (f .height) plane e
 
 -- refused and accepted
@@ -94,14 +94,14 @@ module _ (f : Frame) (rounds threshold : ℕ) (given : Planes (List ℕ)) (work 
   pub rounds-no : (n ≡ 0 → ⊥) → RoundsResult f rounds threshold given work (Refused n) given work
   rounds-no z = record {
     answer = answer-no number-of-answer (rounds-questions f rounds threshold given (length work)) Accepted (Refused n) e z;
-    buffers = left-no (rounds-questions f rounds threshold given (length work)) (rounds-lists ceiling f threshold rounds given) given n e z;
+    buffers = left-no (rounds-questions f rounds threshold given (length work)) (rounds-lists ceiling f rounds threshold given) given n e z;
     buffer = left-no (rounds-questions f rounds threshold given (length work)) (zeroed (f .width) (f .height) work) work n e z;
   }
 
-  pub rounds-yes : n ≡ 0 → {after : Planes (List ℕ)} {work-after : List ℤ} → after ≡ rounds-lists ceiling f threshold rounds given → work-after ≡ zeroed (f .width) (f .height) work
+  pub rounds-yes : n ≡ 0 → {after : Planes (List ℕ)} {work-after : List ℤ} → after ≡ rounds-lists ceiling f rounds threshold given → work-after ≡ zeroed (f .width) (f .height) work
       → RoundsResult f rounds threshold given work Accepted after work-after
   rounds-yes z p q = record {
     answer = answer-yes number-of-answer (rounds-questions f rounds threshold given (length work)) Accepted Accepted n e z refl refl;
-    buffers = p ∙ left-yes (rounds-questions f rounds threshold given (length work)) (rounds-lists ceiling f threshold rounds given) given n e z;
+    buffers = p ∙ left-yes (rounds-questions f rounds threshold given (length work)) (rounds-lists ceiling f rounds threshold given) given n e z;
     buffer = q ∙ left-yes (rounds-questions f rounds threshold given (length work)) (zeroed (f .width) (f .height) work) work n e z;
   }

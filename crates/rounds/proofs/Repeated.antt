@@ -35,18 +35,18 @@ round-agrees top threshold w h a b mosaic green own own' e r c hr hc =
     ∙ sym (round-projected top threshold w h a b mosaic green own' r c)
 
 -- so they do after n
-pub after-rounds-agree : (top threshold n w h a b : ℕ) (mosaic green : ℕ → ℕ → ℕ) (own own' : ℕ → ℕ → ℤ) → Agree w h own own'
-    → Agree w h (after-rounds top threshold n w h a b mosaic green own) (after-rounds top threshold n w h a b mosaic green own')
+pub after-rounds-agree : (top n threshold w h a b : ℕ) (mosaic green : ℕ → ℕ → ℕ) (own own' : ℕ → ℕ → ℤ) → Agree w h own own'
+    → Agree w h (after-rounds top n threshold w h a b mosaic green own) (after-rounds top n threshold w h a b mosaic green own')
 unfolding after-rounds
-after-rounds-agree top threshold zero w h a b mosaic green own own' e = e
-after-rounds-agree top threshold (suc n) w h a b mosaic green own own' e =
-    round-agrees top threshold w h a b mosaic green (after-rounds top threshold n w h a b mosaic green own) (after-rounds top threshold n w h a b mosaic green own') (after-rounds-agree top threshold n w h a b mosaic green own own' e)
+after-rounds-agree top zero threshold w h a b mosaic green own own' e = e
+after-rounds-agree top (suc n) threshold w h a b mosaic green own own' e =
+    round-agrees top threshold w h a b mosaic green (after-rounds top n threshold w h a b mosaic green own) (after-rounds top n threshold w h a b mosaic green own') (after-rounds-agree top n threshold w h a b mosaic green own own' e)
 
 -- ---- what holds of a working plane
 -- What holds of all that is kept, of the observed samples and of the working plane at first, holds of it after any number of rounds.
 module _ (P : ℤ → Type 0) (top threshold w h a b : ℕ) (mosaic green : ℕ → ℕ → ℕ) (own : ℕ → ℕ → ℤ) (keeps : (s : ℤ) → P (kept top s))
     (observed : (r c : ℕ) → r < h → c < w → P (pos (mosaic r c))) (first : (r c : ℕ) → r < h → c < w → P (own r c)) where
-  pub after-rounds-hold : (n r c : ℕ) → r < h → c < w → P (after-rounds top threshold n w h a b mosaic green own r c)
+  pub after-rounds-hold : (n r c : ℕ) → r < h → c < w → P (after-rounds top n threshold w h a b mosaic green own r c)
   unfolding after-rounds
   after-rounds-hold zero r c hr hc = first r c hr hc
   after-rounds-hold (suc n) r c hr hc = unfold round put-observed in cond-cases (eqb (r % 2) a && eqb (c % 2) b) _ _ P (λ t. observed r c hr hc) (λ t. keeps _)
@@ -61,14 +61,14 @@ unfolding kept
 kept-sample top s = let c = clamp-sample top (rounded 1024 s) in (subst (λ (z : ℤ). T (nonNeg z)) (c .1) tt, c .0)
 
 -- so red and blue stay within the ceiling
-pub rewritten-bound : (top threshold n w h a b : ℕ) (mosaic green plane : ℕ → ℕ → ℕ)
+pub rewritten-bound : (top n threshold w h a b : ℕ) (mosaic green plane : ℕ → ℕ → ℕ)
     → ((r c : ℕ) → r < h → c < w → mosaic r c ≤ top) → ((r c : ℕ) → r < h → c < w → plane r c ≤ top)
-    → (r c : ℕ) → r < h → c < w → rewritten top threshold n w h a b mosaic green plane r c ≤ top
+    → (r c : ℕ) → r < h → c < w → rewritten top n threshold w h a b mosaic green plane r c ≤ top
 unfolding rewritten
-rewritten-bound top threshold n w h a b mosaic green plane m p r c hr hc =
+rewritten-bound top n threshold w h a b mosaic green plane m p r c hr hc =
     after-rounds-hold (SampleTo top) top threshold w h a b mosaic green _ (kept-sample top) (λ r c hr hc. (tt, m r c hr hc)) (λ r c hr hc. (tt, p r c hr hc)) n r c hr hc .1
 
 -- with no round no sample changes
-pub no-round : (top threshold w h a b : ℕ) (mosaic green plane : ℕ → ℕ → ℕ) (r c : ℕ) → rewritten top threshold 0 w h a b mosaic green plane r c ≡ plane r c
+pub no-round : (top threshold w h a b : ℕ) (mosaic green plane : ℕ → ℕ → ℕ) (r c : ℕ) → rewritten top 0 threshold w h a b mosaic green plane r c ≡ plane r c
 unfolding rewritten after-rounds
 no-round top threshold w h a b mosaic green plane r c = refl

@@ -72,7 +72,7 @@ module _ (top threshold : ℕ) (k : Coloured) where
 
   -- n
   abbrev pub rounds-of : ℕ → Operation (ℕ × ℕ × ℤ) ℤ
-  rounds-of n w h l p = after-rounds top threshold n w h (k .row l) (k .column l) (λ i j. p i j .0) (λ i j. p i j .1) (λ i j. p i j .2)
+  rounds-of n w h l p = after-rounds top n threshold w h (k .row l) (k .column l) (λ i j. p i j .0) (λ i j. p i j .1) (λ i j. p i j .2)
 
   pub after-rounds-commute : (n : ℕ) → Commutes same same (rounds-of n)
   unfolding after-rounds
@@ -86,21 +86,21 @@ module _ (top threshold : ℕ) (k : Coloured) where
 
 -- ---- the three planes
 -- a colour's samples after n rounds, from what a place has of the mosaic, of green and of the colour
-rewritten-commutes : (top threshold n : ℕ) (k : Coloured) (plane : Planes ℕ → ℕ)
-    → Commutes {A = ℕ × Planes ℕ} same same (λ w h l p. rewritten top threshold n w h (k .row l) (k .column l) (λ i j. p i j .0) (λ i j. p i j .1 .green) (λ i j. plane (p i j .1)))
+rewritten-commutes : (top n threshold : ℕ) (k : Coloured) (plane : Planes ℕ → ℕ)
+    → Commutes {A = ℕ × Planes ℕ} same same (λ w h l p. rewritten top n threshold w h (k .row l) (k .column l) (λ i j. p i j .0) (λ i j. p i j .1 .green) (λ i j. plane (p i j .1)))
 unfolding rewritten
-rewritten-commutes top threshold n k plane =
+rewritten-commutes top n threshold k plane =
     composed (pointwise {A = ℕ × Planes ℕ} {B = ℕ × ℕ × ℤ} same same (λ x. (x .0, x .1 .green, pos (plane (x .1)))) (λ x. refl))
     (composed (after-rounds-commute top threshold k n) (pointwise same same natAbs (λ z. refl)))
 
 -- the rounds see only what is inside, and commute with every turn
-pub rounds-commute : (top threshold n : ℕ) → Commutes same same (rounds top threshold n)
+pub rounds-commute : (top n threshold : ℕ) → Commutes same same (rounds top n threshold)
 unfolding rounds reds blues
-rounds-commute top threshold n =
+rounds-commute top n threshold =
     composed {B = (ℕ × ℕ) × ℕ}
-    (paired (paired {B = ℕ} {C = ℕ} (rewritten-commutes top threshold n reds (λ x. x .red)) (pointwise {A = ℕ × Planes ℕ} same same (λ x. x .1 .green) (λ x. refl))) (rewritten-commutes top threshold n blues (λ x. x .blue)))
+    (paired (paired {B = ℕ} {C = ℕ} (rewritten-commutes top n threshold reds (λ x. x .red)) (pointwise {A = ℕ × Planes ℕ} same same (λ x. x .1 .green) (λ x. refl))) (rewritten-commutes top n threshold blues (λ x. x .blue)))
     (pointwise same same (λ x. planes (x .0 .0) (x .0 .1) (x .1)) (λ x. refl))
 
 -- the rounds of a turned picture are the rounds' planes turned
-pub rounds-turned : (top threshold n t : ℕ) (p : Picture (ℕ × Planes ℕ)) → apply (rounds top threshold n) (turned t p) ≈ turned t (apply (rounds top threshold n) p)
-rounds-turned top threshold n = apply-turned (rounds-commute top threshold n)
+pub rounds-turned : (top n threshold t : ℕ) (p : Picture (ℕ × Planes ℕ)) → apply (rounds top n threshold) (turned t p) ≈ turned t (apply (rounds top n threshold) p)
+rounds-turned top n threshold = apply-turned (rounds-commute top n threshold)

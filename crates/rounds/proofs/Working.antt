@@ -99,7 +99,7 @@ module _ (top threshold w h a b : ℕ) (mosaic green : List ℕ) (work : List �
 
   -- ---- n rounds of it
   abbrev After : ℕ → ℕ → ℕ → ℤ
-  After n = after-rounds top threshold n w h a b Mosaic Green Own
+  After n = after-rounds top n threshold w h a b Mosaic Green Own
 
   -- none
   pub none-laid : work ≡ with-plane w h (After 0) work
@@ -132,7 +132,7 @@ module _ (top threshold w h a b : ℕ) (mosaic green : List ℕ) (work : List �
       first r c hr hc = unfold plane-of in subst (λ (n : ℕ). SampleTo 65535 (value work n)) (zero-add (r * w + c)) (narrow .sign (r * w + c) (place-inside hr hc), narrow .small (r * w + c) (place-inside hr hc))
 
 -- ---- a colour's plane: loaded, through n rounds, and stored
-module _ (top threshold n w h a b : ℕ) (mosaic green plane : List ℕ) (work : List ℤ) (room : w * h ≤ length work) (long : length plane ≡ w * h)
+module _ (top n threshold w h a b : ℕ) (mosaic green plane : List ℕ) (work : List ℤ) (room : w * h ≤ length work) (long : length plane ≡ w * h)
     {first : List ℤ} (p : first ≡ overwrite work 0 (length plane) (sample plane)) where
   abbrev Samples : ℕ → ℕ → ℤ
   Samples r c = pos (plane-of 0 w plane r c)
@@ -153,25 +153,25 @@ module _ (top threshold n w h a b : ℕ) (mosaic green plane : List ℕ) (work :
   pub first-workable : Workable w h mosaic green (length work) → Workable w h mosaic green (length first)
   first-workable = subst (Workable w h mosaic green) (sym first-long)
 
-  module _ {second : List ℤ} (q : second ≡ with-plane w h (after-rounds top threshold n w h a b (plane-of 0 w mosaic) (plane-of 0 w green) (plane-of (pos 0) w first)) first) where
+  module _ {second : List ℤ} (q : second ≡ with-plane w h (after-rounds top n threshold w h a b (plane-of 0 w mosaic) (plane-of 0 w green) (plane-of (pos 0) w first)) first) where
     -- and at last
     pub last-narrow : top ≤ 65535 → ((k : ℕ) → getD plane k 0 ≤ 65535) → ((k : ℕ) → getD mosaic k 0 ≤ 65535) → Narrow second 0 (length plane)
     last-narrow few sp sm =
         subst (Narrow second 0) (sym long) (after-narrow top threshold w h a b mosaic green first (omega (arith, room, first-long)) n q (first-narrow sp) few sm)
 
-    pub last-laid : second ≡ with-plane w h (after-rounds top threshold n w h a b (plane-of 0 w mosaic) (plane-of 0 w green) Samples) work
+    pub last-laid : second ≡ with-plane w h (after-rounds top n threshold w h a b (plane-of 0 w mosaic) (plane-of 0 w green) Samples) work
     last-laid =
-        q ∙ with-plane-agree w h first (omega (arith, room, first-long)) (after-rounds-agree top threshold n w h a b (plane-of 0 w mosaic) (plane-of 0 w green) (plane-of (pos 0) w first) Samples held)
-        ∙ ap (with-plane w h (after-rounds top threshold n w h a b (plane-of 0 w mosaic) (plane-of 0 w green) Samples)) first-laid
-        ∙ with-plane-again w h work room Samples (after-rounds top threshold n w h a b (plane-of 0 w mosaic) (plane-of 0 w green) Samples)
+        q ∙ with-plane-agree w h first (omega (arith, room, first-long)) (after-rounds-agree top n threshold w h a b (plane-of 0 w mosaic) (plane-of 0 w green) (plane-of (pos 0) w first) Samples held)
+        ∙ ap (with-plane w h (after-rounds top n threshold w h a b (plane-of 0 w mosaic) (plane-of 0 w green) Samples)) first-laid
+        ∙ with-plane-again w h work room Samples (after-rounds top n threshold w h a b (plane-of 0 w mosaic) (plane-of 0 w green) Samples)
       where
         held : Agree w h (plane-of (pos 0) w first) Samples
         held r c hr hc = ap (λ (l : List ℤ). plane-of (pos 0) w l r c) first-laid ∙ plane-with w h work room Samples r c hr hc
 
     -- stored as samples
     pub stored : {out : List ℕ} → out ≡ tabulate (length plane) (λ k. natAbs (value second k))
-        → out ≡ listing w h (rewritten top threshold n w h a b (plane-of 0 w mosaic) (plane-of 0 w green) (plane-of 0 w plane))
+        → out ≡ listing w h (rewritten top n threshold w h a b (plane-of 0 w mosaic) (plane-of 0 w green) (plane-of 0 w plane))
     unfolding listing rewritten
     stored e =
         e ∙ ap (λ (m : ℕ). tabulate m (λ k. natAbs (value second k))) long
-        ∙ tabulate-cong (w * h) _ _ (λ k hk. ap natAbs (ap (λ (l : List ℤ). value l k) last-laid ∙ with-plane-at w h work room (after-rounds top threshold n w h a b (plane-of 0 w mosaic) (plane-of 0 w green) Samples) k hk))
+        ∙ tabulate-cong (w * h) _ _ (λ k hk. ap natAbs (ap (λ (l : List ℤ). value l k) last-laid ∙ with-plane-at w h work room (after-rounds top n threshold w h a b (plane-of 0 w mosaic) (plane-of 0 w green) Samples) k hk))

@@ -38,19 +38,19 @@ number-of-answer (rounds-answer.Refused number) = number
 -- ---- what is promised
 -- the plane of the colour with these parities after the rounds, row by row
 unfoldable pub rewritten-list : ℕ → Frame → ℕ → ℕ → ℕ → ℕ → List ℕ → List ℕ → List ℕ
-rewritten-list top f threshold n a b green plane =
-    listing (f .width) (f .height) (rewritten top threshold n (f .width) (f .height) a b (plane-of 0 (f .width) (f .samples)) (plane-of 0 (f .width) green) (plane-of 0 (f .width) plane))
+rewritten-list top f n threshold a b green plane =
+    listing (f .width) (f .height) (rewritten top n threshold (f .width) (f .height) a b (plane-of 0 (f .width) (f .samples)) (plane-of 0 (f .width) green) (plane-of 0 (f .width) plane))
 
 -- red and blue rewritten; green stays
 unfoldable pub rounds-lists : ℕ → Frame → ℕ → ℕ → Planes (List ℕ) → Planes (List ℕ)
-rounds-lists top f threshold n given =
-    planes (rewritten-list top f threshold n (red-row (f .layout)) (red-column (f .layout)) (given .green) (given .red))
+rounds-lists top f n threshold given =
+    planes (rewritten-list top f n threshold (red-row (f .layout)) (red-column (f .layout)) (given .green) (given .red))
     (given .green)
-    (rewritten-list top f threshold n (1 - red-row (f .layout)) (1 - red-column (f .layout)) (given .green) (given .blue))
+    (rewritten-list top f n threshold (1 - red-row (f .layout)) (1 - red-column (f .layout)) (given .green) (given .blue))
 
 -- The rounds call, given frame f, so many rounds, a threshold, three planes that held `given` and a work buffer that held `work`: its
 -- answer r, and what the planes and the buffer hold after.
 pub record RoundsResult (f : Frame) (rounds threshold : ℕ) (given : Planes (List ℕ)) (work : List ℤ) (r : RoundsAnswer) (after : Planes (List ℕ)) (work-after : List ℤ) : Type 0 where
   pub answer : Answered number-of-answer (rounds-questions f rounds threshold given (length work)) rounds-answer.Accepted r
-  pub buffers : after ≡ if-accepted (rounds-questions f rounds threshold given (length work)) (rounds-lists ceiling f threshold rounds given) given
+  pub buffers : after ≡ if-accepted (rounds-questions f rounds threshold given (length work)) (rounds-lists ceiling f rounds threshold given) given
   pub buffer : work-after ≡ if-accepted (rounds-questions f rounds threshold given (length work)) (zeroed (f .width) (f .height) work) work

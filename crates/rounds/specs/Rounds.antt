@@ -29,20 +29,20 @@ round top threshold w h a b mosaic green own =
 
 -- n rounds, one after another
 unfoldable pub after-rounds : ℕ → ℕ → ℕ → ℕ → ℕ → ℕ → ℕ → (ℕ → ℕ → ℕ) → (ℕ → ℕ → ℕ) → (ℕ → ℕ → ℤ) → ℕ → ℕ → ℤ
-after-rounds top threshold zero w h a b mosaic green own = own
-after-rounds top threshold (suc n) w h a b mosaic green own = round top threshold w h a b mosaic green (after-rounds top threshold n w h a b mosaic green own)
+after-rounds top zero threshold w h a b mosaic green own = own
+after-rounds top (suc n) threshold w h a b mosaic green own = round top threshold w h a b mosaic green (after-rounds top n threshold w h a b mosaic green own)
 
 -- ---- the three planes
 -- a colour's plane of samples after n rounds
 unfoldable pub rewritten : ℕ → ℕ → ℕ → ℕ → ℕ → ℕ → ℕ → (ℕ → ℕ → ℕ) → (ℕ → ℕ → ℕ) → (ℕ → ℕ → ℕ) → ℕ → ℕ → ℕ
-rewritten top threshold n w h a b mosaic green plane r c = natAbs (after-rounds top threshold n w h a b mosaic green (λ i j. pos (plane i j)) r c)
+rewritten top n threshold w h a b mosaic green plane r c = natAbs (after-rounds top n threshold w h a b mosaic green (λ i j. pos (plane i j)) r c)
 
 -- Red and blue are rewritten, and green stays. A place has its mosaic sample, and its samples in the three given planes.
 unfoldable pub rounds : ℕ → ℕ → ℕ → Operation (ℕ × Planes ℕ) (Planes ℕ)
-rounds top threshold n w h l p r c =
-    planes (rewritten top threshold n w h (red-row l) (red-column l) mosaic green (λ i j. p i j .1 .red) r c)
+rounds top n threshold w h l p r c =
+    planes (rewritten top n threshold w h (red-row l) (red-column l) mosaic green (λ i j. p i j .1 .red) r c)
     (green r c)
-    (rewritten top threshold n w h (1 - red-row l) (1 - red-column l) mosaic green (λ i j. p i j .1 .blue) r c)
+    (rewritten top n threshold w h (1 - red-row l) (1 - red-column l) mosaic green (λ i j. p i j .1 .blue) r c)
   where
     mosaic : ℕ → ℕ → ℕ
     mosaic i j = p i j .0

@@ -120,7 +120,7 @@ fn run(
     work: &mut [i32],
 )
     requires { ⌜ Workable width height (now mosaic) (now green) (length (now work)) × (a < 2) × (b < 2) × Narrow (now work) 0 (width * height) ⌝ }
-    ensures { λ _. ⌜ now (work .exit) ≡ with-plane width height (after-rounds ceiling threshold rounds width height a b (plane-of 0 width (now (mosaic .entry))) (plane-of 0 width (now (green .entry))) (plane-of (pos 0) width (now (work .entry)))) (now (work .entry)) ⌝ }
+    ensures { λ _. ⌜ now (work .exit) ≡ with-plane width height (after-rounds ceiling rounds threshold width height a b (plane-of 0 width (now (mosaic .entry))) (plane-of 0 width (now (green .entry))) (plane-of (pos 0) width (now (work .entry)))) (now (work .entry)) ⌝ }
 {
     let mut n = 0;
     while n < rounds {
@@ -143,8 +143,8 @@ fn rewrite(
     work: &mut [i32],
 )
     requires { ⌜ Workable width height (now mosaic) (now green) (length (now work)) × (a < 2) × (b < 2) × (length (now plane) ≡ width * height) ⌝ }
-    ensures { λ _. ⌜ now (plane .exit) ≡ listing width height (rewritten ceiling threshold rounds width height a b (plane-of 0 width (now (mosaic .entry))) (plane-of 0 width (now (green .entry))) (plane-of 0 width (now (plane .entry)))) ⌝ }
-    ensures { λ _. ⌜ now (work .exit) ≡ with-plane width height (after-rounds ceiling threshold rounds width height a b (plane-of 0 width (now (mosaic .entry))) (plane-of 0 width (now (green .entry))) (λ i j. pos (plane-of 0 width (now (plane .entry)) i j))) (now (work .entry)) ⌝ }
+    ensures { λ _. ⌜ now (plane .exit) ≡ listing width height (rewritten ceiling rounds threshold width height a b (plane-of 0 width (now (mosaic .entry))) (plane-of 0 width (now (green .entry))) (plane-of 0 width (now (plane .entry)))) ⌝ }
+    ensures { λ _. ⌜ now (work .exit) ≡ with-plane width height (after-rounds ceiling rounds threshold width height a b (plane-of 0 width (now (mosaic .entry))) (plane-of 0 width (now (green .entry))) (λ i j. pos (plane-of 0 width (now (plane .entry)) i j))) (now (work .entry)) ⌝ }
 {
     load(plane, work);
     run(width, height, a, b, rounds, threshold, mosaic, green, work);
@@ -231,7 +231,7 @@ fn rewrite_colours(
 )
     requires { ⌜ Workable width height (now mosaic) (now green) (length (now work)) ⌝ }
     requires { ⌜ (length (now red) ≡ width * height) × (length (now blue) ≡ width * height) ⌝ }
-    ensures { λ _. ⌜ planes (now (red .exit)) (now (green .entry)) (now (blue .exit)) ≡ rounds-lists ceiling (frame width height layout (now (mosaic .entry))) threshold rounds (planes (now (red .entry)) (now (green .entry)) (now (blue .entry))) ⌝ }
+    ensures { λ _. ⌜ planes (now (red .exit)) (now (green .entry)) (now (blue .exit)) ≡ rounds-lists ceiling (frame width height layout (now (mosaic .entry))) rounds threshold (planes (now (red .entry)) (now (green .entry)) (now (blue .entry))) ⌝ }
     ensures { λ _. ⌜ now (work .exit) ≡ zeroed width height (now (work .entry)) ⌝ }
 {
     let red_row = (layout / 2 % 2) as usize;

@@ -28,10 +28,10 @@ run-requires c κs =
     let l = c .before .before in
     let s = l .before .before .before .before .before .before in
     let a = s .args in (
-      first-workable ceiling (a .threshold) (a .rounds) (a .width) (a .height) (a .a) (a .b) (now (a .mosaic)) (now (a .green)) (now (a .plane)) (now (a .work)) (room s) (s .pre .3) (l .load .ensures) (s .pre .0),
+      first-workable ceiling (a .rounds) (a .threshold) (a .width) (a .height) (a .a) (a .b) (now (a .mosaic)) (now (a .green)) (now (a .plane)) (now (a .work)) (room s) (s .pre .3) (l .load .ensures) (s .pre .0),
       s .pre .1,
       s .pre .2,
-      first-narrow ceiling (a .threshold) (a .rounds) (a .width) (a .height) (a .a) (a .b) (now (a .mosaic)) (now (a .green)) (now (a .plane)) (now (a .work)) (room s) (s .pre .3) (l .load .ensures) (plane-small l),
+      first-narrow ceiling (a .rounds) (a .threshold) (a .width) (a .height) (a .a) (a .b) (now (a .mosaic)) (now (a .green)) (now (a .plane)) (now (a .work)) (room s) (s .pre .3) (l .load .ensures) (plane-small l),
     )
 
 store-requires : tie.Need-store-requires
@@ -40,7 +40,7 @@ store-requires c κs =
     let l = r .before .before .before in
     let s = l .before .before .before .before .before .before in
     let a = s .args in
-    last-narrow ceiling (a .threshold) (a .rounds) (a .width) (a .height) (a .a) (a .b) (now (a .mosaic)) (now (a .green)) (now (a .plane)) (now (a .work)) (room s) (s .pre .3) (l .load .ensures) (r .run .ensures) (omega arith) (plane-small l) (mosaic-small l)
+    last-narrow ceiling (a .rounds) (a .threshold) (a .width) (a .height) (a .a) (a .b) (now (a .mosaic)) (now (a .green)) (now (a .plane)) (now (a .work)) (room s) (s .pre .3) (l .load .ensures) (r .run .ensures) (omega arith) (plane-small l) (mosaic-small l)
 
 same-length : tie.Need-same-length
 same-length c = search needs
@@ -54,8 +54,8 @@ returns c =
     let l = r .before .before .before in
     let s = l .before .before .before .before .before .before in
     let a = s .args in (
-      stored ceiling (a .threshold) (a .rounds) (a .width) (a .height) (a .a) (a .b) (now (a .mosaic)) (now (a .green)) (now (a .plane)) (now (a .work)) (room s) (s .pre .3) (l .load .ensures) (r .run .ensures) (c .before .before .store .ensures),
-      last-laid ceiling (a .threshold) (a .rounds) (a .width) (a .height) (a .a) (a .b) (now (a .mosaic)) (now (a .green)) (now (a .plane)) (now (a .work)) (room s) (s .pre .3) (l .load .ensures) (r .run .ensures),
+      stored ceiling (a .rounds) (a .threshold) (a .width) (a .height) (a .a) (a .b) (now (a .mosaic)) (now (a .green)) (now (a .plane)) (now (a .work)) (room s) (s .pre .3) (l .load .ensures) (r .run .ensures) (c .before .before .store .ensures),
+      last-laid ceiling (a .rounds) (a .threshold) (a .width) (a .height) (a .a) (a .b) (now (a .mosaic)) (now (a .green)) (now (a .plane)) (now (a .work)) (room s) (s .pre .3) (l .load .ensures) (r .run .ensures),
     )
 
 pub rewrite-spec : {M : Type 1} → statement M

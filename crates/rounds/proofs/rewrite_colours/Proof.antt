@@ -53,7 +53,7 @@ returns c =
     let first = second .before .before .before .before .before .before in
     let s = first .before .before .before .before .before .before .before in
     let a = s .args in (
-      both-colours _ (a .width) (a .height) (a .layout) (a .threshold) (a .rounds) (now (a .mosaic)) (now (a .green)) (now (a .red)) (now (a .blue)) (first .rewrite .ensures .0) (second .rewrite2 .ensures .0),
+      both-colours _ (a .width) (a .height) (a .layout) (a .rounds) (a .threshold) (now (a .mosaic)) (now (a .green)) (now (a .red)) (now (a .blue)) (first .rewrite .ensures .0) (second .rewrite2 .ensures .0),
       all-zero (a .width) (a .height) _ _ (now (a .work)) (s .pre .0 .work) (first .rewrite .ensures .1) (second .rewrite2 .ensures .1) (c .before .zero .ensures),
     )
 

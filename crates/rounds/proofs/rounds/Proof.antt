@@ -2,6 +2,7 @@
 -- Assumes nothing.
 use mathlib.Core.List.{List}
 use Prim.Native.Nat.{ℕ}
+use native.Mathlib.Omega.{arith}
 use denote.Ref.{now}
 use borrow.Author.Needs.{needs}
 use Rattle.turns.specs.Frames.{Frame, frame, Planes, planes}
@@ -29,15 +30,15 @@ returns : tie.Need-returns
 returns c =
     let t = c .before .rounds-refusal in
     let s = c .before .before .before .before .before .before .before .before in
-    rounds-no (Given s) (s .args .rounds) (s .args .threshold) (Three s) (now (s .args .work)) (t .result) (t .ensures) (c .if1 .taken)
+    rounds-no (Given s) (s .args .rounds) (s .args .threshold) (Three s) (now (s .args .work)) (t .result) (t .ensures) (λ z. omega (arith, z, c .if1 .taken))
 
 rewrite-colours-requires : tie.Need-rewrite-colours-requires
 rewrite-colours-requires c κs =
     let e = c .before .before .before in
     let t = e .before .rounds-refusal in
     let s = e .before .before .before .before .before .before .before .before in (
-      workable (Given s) (s .args .rounds) (s .args .threshold) (Three s) _ (t .result) (t .ensures) (e .if1 .left),
-      (red-long (Given s) (s .args .rounds) (s .args .threshold) (Three s) _ (t .result) (t .ensures) (e .if1 .left), blue-long (Given s) (s .args .rounds) (s .args .threshold) (Three s) _ (t .result) (t .ensures) (e .if1 .left)),
+      workable (Given s) (s .args .rounds) (s .args .threshold) (Three s) _ (t .result) (t .ensures) (omega (arith, e .if1 .left)),
+      (red-long (Given s) (s .args .rounds) (s .args .threshold) (Three s) _ (t .result) (t .ensures) (omega (arith, e .if1 .left)), blue-long (Given s) (s .args .rounds) (s .args .threshold) (Three s) _ (t .result) (t .ensures) (omega (arith, e .if1 .left))),
     )
 
 same-length-3 : tie.Need-same-length-3
@@ -55,7 +56,7 @@ returns-2 c =
     let e = done .before .before .before .before in
     let t = e .before .rounds-refusal in
     let s = e .before .before .before .before .before .before .before .before in
-    rounds-yes (Given s) (s .args .rounds) (s .args .threshold) (Three s) (now (s .args .work)) (t .result) (t .ensures) (e .if1 .left) (done .rewrite-colours .ensures .0) (done .rewrite-colours .ensures .1)
+    rounds-yes (Given s) (s .args .rounds) (s .args .threshold) (Three s) (now (s .args .work)) (t .result) (t .ensures) (omega (arith, e .if1 .left)) (done .rewrite-colours .ensures .0) (done .rewrite-colours .ensures .1)
 
 pub rounds-spec : {M : Type 1} → statement M
 rounds-spec =

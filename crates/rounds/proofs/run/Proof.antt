@@ -17,14 +17,14 @@ use Rattle.rounds.proofs.run.Tie as tie
 
 abbrev Inv-loop : tie.InvT-loop
 Inv-loop width height a b rounds threshold mosaic green work₀ n₀ work n =
-    (n ≤ rounds) × (work ≡ with-plane width height (after-rounds ceiling threshold n width height a b (plane-of 0 width mosaic) (plane-of 0 width green) (plane-of (pos 0) width work₀)) work₀) × (length work ≡ length work₀)
+    (n ≤ rounds) × (work ≡ with-plane width height (after-rounds ceiling n threshold width height a b (plane-of 0 width mosaic) (plane-of 0 width green) (plane-of (pos 0) width work₀)) work₀) × (length work ≡ length work₀)
 
 abbrev μ-loop : tie.MeasureT-loop
 μ-loop width height a b rounds threshold mosaic green work₀ n₀ work n = rounds - n
 
 -- the working plane after n rounds
 abbrev After : tie.Start Inv-loop μ-loop → ℕ → ℕ → ℕ → ℤ
-After s n = let a = s .args in after-rounds ceiling (a .threshold) n (a .width) (a .height) (a .a) (a .b) (plane-of 0 (a .width) (now (a .mosaic))) (plane-of 0 (a .width) (now (a .green))) (plane-of (pos 0) (a .width) (now (a .work)))
+After s n = let a = s .args in after-rounds ceiling n (a .threshold) (a .width) (a .height) (a .a) (a .b) (plane-of 0 (a .width) (now (a .mosaic))) (plane-of 0 (a .width) (now (a .green))) (plane-of (pos 0) (a .width) (now (a .work)))
 
 -- it has room
 room : (s : tie.Start Inv-loop μ-loop) → s .args .width * s .args .height ≤ length (now (s .args .work))
