@@ -129,6 +129,20 @@ pub fn join(width: usize, height: usize, bands: [&[i32]; 4], sums: &mut [i32]) -
     Ok(())
 }
 
+/// The four bands of a plane that the split accepts.
+pub fn bands_of(width: usize, height: usize, plane: &[i32]) -> [Vec<i32>; 4] {
+    let mut bands = [(); 4].map(|_| vec![0; width * height]);
+    split(width, height, plane, bands.each_mut().map(|band| &mut band[..])).unwrap();
+    bands
+}
+
+/// The sums of four bands that the join accepts.
+pub fn sums_of(width: usize, height: usize, bands: [&[i32]; 4]) -> Vec<i32> {
+    let mut sums = vec![0; width * height];
+    join(width, height, bands, &mut sums).unwrap();
+    sums
+}
+
 /// (s + 512) whole-divided by 1,024, not yet clipped.
 fn whole_divided(sum: i32) -> i64 {
     (i64::from(sum) + 512).div_euclid(1024)

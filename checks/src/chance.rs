@@ -31,6 +31,12 @@ impl Chance {
         choices[self.place(choices.len())]
     }
 
+    /// One of these, to be rewritten.
+    pub fn one_in<'a, T>(&mut self, values: &'a mut [T]) -> &'a mut T {
+        let place = self.place(values.len());
+        &mut values[place]
+    }
+
     pub fn bytes(&mut self, count: usize) -> Vec<u8> {
         (0..count).map(|_| self.next().to_le_bytes()[3]).collect()
     }

@@ -74,18 +74,21 @@ pub fn estimate(
     Ok(())
 }
 
+/// Red, green and blue of a mosaic that the call accepts.
+pub fn estimates_of(width: usize, height: usize, layout: u8, mosaic: &[u16]) -> [Vec<u16>; 3] {
+    let mut planes = [(); 3].map(|_| vec![7; width * height]);
+    estimate(width, height, layout, mosaic, planes.each_mut().map(|plane| &mut plane[..])).unwrap();
+    planes
+}
+
 #[cfg(test)]
 mod tests {
     use super::*;
     use crate::chance::Chance;
     use crate::turns::Frame;
 
-    /// Red, green and blue of a mosaic.
     fn estimate_of(frame: &Frame) -> [Vec<u16>; 3] {
-        let mut planes = [(); 3].map(|_| vec![7; frame.samples.len()]);
-        let lent = planes.each_mut().map(|plane| &mut plane[..]);
-        estimate(frame.width, frame.height, frame.layout, &frame.samples, lent).unwrap();
-        planes
+        estimates_of(frame.width, frame.height, frame.layout, &frame.samples)
     }
 
     #[test]

@@ -1,10 +1,12 @@
-//! The C calls of the filter bank, of the first estimates and of the green update.
+//! The C calls of the filter bank, of the first estimates, of the green update and of the rounds.
 //!
 //! This is no module of the crate: what links the crate would then need the static library. The tests of these calls and the
 //! benchmark take the file in by its path.
 
 // a test makes its own calls only
 #![allow(dead_code)]
+
+use checks::packet::Fields;
 
 #[link(name = "demosaic_c", kind = "static")]
 unsafe extern "C" {
@@ -62,6 +64,24 @@ unsafe extern "C" {
         mosaic_len: usize,
         green: *mut u16,
         green_len: usize,
+        work: *mut i32,
+        work_len: usize,
+    ) -> u32;
+
+    fn demosaic_rounds(
+        width: usize,
+        height: usize,
+        layout: u8,
+        rounds: u8,
+        threshold: u16,
+        mosaic: *const u16,
+        mosaic_len: usize,
+        red: *mut u16,
+        red_len: usize,
+        green: *const u16,
+        green_len: usize,
+        blue: *mut u16,
+        blue_len: usize,
         work: *mut i32,
         work_len: usize,
     ) -> u32;
@@ -164,6 +184,36 @@ pub fn update(
             mosaic.len(),
             green.as_mut_ptr(),
             green.len(),
+            work.as_mut_ptr(),
+            work.len(),
+        )
+    })
+}
+
+pub fn rounds(
+    fields: &Fields,
+    mosaic: &[u16],
+    red: &mut [u16],
+    green: &[u16],
+    blue: &mut [u16],
+    work: &mut [i32],
+) -> Result<(), u32> {
+    // as in the split
+    answer(unsafe {
+        demosaic_rounds(
+            fields.width,
+            fields.height,
+            fields.layout,
+            fields.rounds,
+            fields.threshold,
+            mosaic.as_ptr(),
+            mosaic.len(),
+            red.as_mut_ptr(),
+            red.len(),
+            green.as_ptr(),
+            green.len(),
+            blue.as_mut_ptr(),
+            blue.len(),
             work.as_mut_ptr(),
             work.len(),
         )

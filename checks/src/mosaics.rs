@@ -5,6 +5,15 @@ use crate::chance::Chance;
 /// A name and the samples.
 pub type Kind = (String, Vec<u16>);
 
+/// 2 by 2 of two values: columns in turn, rows in turn, checkerboard. Each has one band of detail.
+pub const OF_TWO: [fn(u16, u16) -> [u16; 4]; 3] =
+    [|a, b| [a, b, a, b], |a, b| [a, a, b, b], |a, b| [a, b, b, a]];
+
+/// Lengths around those that a machine takes at once, and of which it takes every other place.
+pub fn longer_lengths() -> impl Iterator<Item = usize> {
+    (11..=40).chain([63, 64, 65, 66, 127, 128, 129, 130, 255, 256, 257])
+}
+
 /// Samples whose row i, column j holds `held(i, j)`.
 pub fn filled(width: usize, height: usize, held: impl FnMut(usize, usize) -> u16) -> Vec<u16> {
     let mut held = held;

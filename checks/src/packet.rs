@@ -1,6 +1,6 @@
 //! Document 01, "Packet".
 
-/// What a packet's trailer says of its frame.
+/// What a packet's trailer, or a call of the rounds, says of its frame.
 #[derive(Clone, Copy, Debug, PartialEq)]
 pub struct Fields {
     pub width: usize,
@@ -63,7 +63,7 @@ pub fn bytes(fields: &Fields, samples: &[u16]) -> Vec<u8> {
 }
 
 /// Questions 1, 2, 3, 4 and 5.
-fn fields_refusal(fields: &Fields) -> Option<u32> {
+pub fn fields_refusal(fields: &Fields) -> Option<u32> {
     if !(2..=2048).contains(&fields.width) {
         Some(1)
     } else if !(2..=2048).contains(&fields.height) {

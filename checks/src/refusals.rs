@@ -16,6 +16,34 @@ pub fn wrong_lengths(width: usize, height: usize) -> Vec<usize> {
     near.into_iter().chain(far).filter(|&length| length != count).collect()
 }
 
+/// Widths and heights of the frames whose lengths and samples are tried.
+pub const SHAPES: [(usize, usize); 9] =
+    [(2, 2), (3, 2), (2, 3), (7, 5), (16, 16), (17, 3), (64, 2), (33, 2), (2, 35)];
+
+/// Work buffers that are too short for so many samples.
+pub fn short_work(count: usize) -> [usize; 9] {
+    [0, 1, count - 1, count, count + 1, 2 * count, 4 * count, 7 * count, 8 * count - 1]
+}
+
+/// Work buffers that suffice for so many samples.
+pub fn sufficient_work(count: usize) -> [usize; 8] {
+    [0, 1, 2, 3, 8, count, 8 * count, 1000].map(|more| 8 * count + more)
+}
+
+/// No samples.
+pub const NO_SAMPLE: [u16; 3] = [4096, 32_768, 65_535];
+
+/// What is tried at a place of a mosaic or of a plane, and whether it is in range.
+pub const TRIES: [(u16, bool); 6] =
+    [(4095, true), (4096, false), (4097, false), (8191, false), (32_768, false), (65_535, false)];
+
+/// How many samples the largest frame has.
+pub const LARGEST: usize = 2048 * 2048;
+
+/// The first, a middle and the last place of the largest frame, and what is tried there.
+pub const TRIES_IN_THE_LARGEST: [(usize, u16); 3] =
+    [(0, 65_535), (LARGEST / 2 + 77, 4096), (LARGEST - 1, 4096)];
+
 /// Every set of the questions, each in their order.
 pub fn sets(questions: &[u32]) -> Vec<Vec<u32>> {
     let chosen = |set: usize| (0..questions.len()).filter(move |k| set >> k & 1 == 1);

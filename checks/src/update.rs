@@ -11,20 +11,11 @@ fn rows_and_columns(mosaic: &Mosaic, colour: Colour) -> (Vec<usize>, Vec<usize>)
     (rows, columns)
 }
 
-/// The four bands of a small plane.
-fn bands_of(width: usize, height: usize, plane: &[i32]) -> [Vec<i32>; 4] {
-    let mut bands = [(); 4].map(|_| vec![0; width * height]);
-    bank::split(width, height, plane, bands.each_mut().map(|band| &mut band[..])).unwrap();
-    bands
-}
-
 /// The sums of band 1 of the small plane of green with bands 2 to 4 of the small plane of the colour.
 fn joined(width: usize, height: usize, green: &[i32], coloured: &[i32]) -> Vec<i32> {
-    let [green1, ..] = bands_of(width, height, green);
-    let [_, coloured2, coloured3, coloured4] = bands_of(width, height, coloured);
-    let mut sums = vec![0; width * height];
-    bank::join(width, height, [&green1, &coloured2, &coloured3, &coloured4], &mut sums).unwrap();
-    sums
+    let [green1, ..] = bank::bands_of(width, height, green);
+    let [_, coloured2, coloured3, coloured4] = bank::bands_of(width, height, coloured);
+    bank::sums_of(width, height, [&green1, &coloured2, &coloured3, &coloured4])
 }
 
 /// Puts the update into green at the places of red or of blue, from the first green.
@@ -80,8 +71,8 @@ pub fn update(
 #[cfg(test)]
 mod tests {
     use super::*;
-    use crate::border::reflect;
     use crate::chance::Chance;
+    use crate::low_band::mixed_sum;
     use crate::turns::Frame;
 
     /// Green after the update.
@@ -116,12 +107,9 @@ mod tests {
         assert_eq!(update_of(&frame, &high_green), [5, 4088, 6, 4095, 7, 4088, 50, 8, 50, 9, 50, 10]);
     }
 
-    /// The four bands of one plane join to 1,024 times it, so the sums are 1,024 times the colour, and band 1 of the
-    /// difference between green and the colour. Low split and low join together have the taps −1 0 9 16 9 0 −1.
     #[test]
     fn by_the_low_band_of_the_difference() {
         let chance = &mut Chance(0x0123_4567_89ab_cdef);
-        let taps = [-1, 0, 9, 16, 9, 0, -1];
         for width in 1..=9 {
             for height in 1..=9 {
                 let [green, coloured] = [(); 2].map(|_| -> Vec<i32> {
@@ -129,15 +117,8 @@ mod tests {
                 });
                 let sums = joined(width, height, &green, &coloured);
                 for (k, &sum) in sums.iter().enumerate() {
-                    let (i, j) = ((k / width) as i64, (k % width) as i64);
-                    let mut due = 1024 * coloured[k];
-                    for (row, down) in (i - 3..).zip(taps) {
-                        for (column, across) in (j - 3..).zip(taps) {
-                            let place = reflect(height, row) * width + reflect(width, column);
-                            due += down * across * (green[place] - coloured[place]);
-                        }
-                    }
-                    assert_eq!(sum, due, "{width} by {height}, row {i}, column {j}");
+                    let due = mixed_sum(width, height, k, &green, &coloured);
+                    assert_eq!(sum, due, "{width} by {height}, place {k}");
                 }
             }
         }

@@ -4,8 +4,11 @@
 use checks::buffers::Buffer;
 use checks::chance::Chance;
 use checks::estimate::estimate;
-use checks::mosaics::{kinds, spike};
-use checks::refusals::{answered, layouts, several_wrongs, sizes, wrong_lengths, Counts, FrameCall, NO_LENGTH};
+use checks::mosaics::{kinds, longer_lengths, spike};
+use checks::refusals::{
+    answered, layouts, several_wrongs, sizes, wrong_lengths, Counts, FrameCall, LARGEST, NO_LENGTH,
+    NO_SAMPLE, SHAPES, TRIES, TRIES_IN_THE_LARGEST,
+};
 
 #[path = "../src/library.rs"]
 mod library;
@@ -100,11 +103,10 @@ fn every_small_size() {
     }
 }
 
-/// Lengths around those that a machine takes at once.
 #[test]
 fn longer_lines() {
     let chance = &mut Chance(0x0123_4567_89ab_cdef);
-    for length in (13..=40).chain([63, 64, 65, 66, 127, 128, 129, 255, 256, 257]) {
+    for length in longer_lengths() {
         for other in [2, 3, 4, 5] {
             all_kinds(chance, length, other);
             all_kinds(chance, other, length);
@@ -193,7 +195,7 @@ fn three_by_three_by_hand() {
 
 /// Questions 6 and 7, each answered no alone: of each buffer, and of two planes whose lengths together would be right.
 fn lengths(chance: &mut Chance, counts: &mut Counts) {
-    for (width, height) in [(2, 2), (3, 2), (2, 3), (7, 5), (16, 16), (17, 3), (64, 2)] {
+    for (width, height) in SHAPES {
         let sound = Ask::sound(chance, width, height);
         for length in wrong_lengths(width, height) {
             let ask = Ask { mosaic: chance.samples(length), ..sound.clone() };
@@ -212,27 +214,27 @@ fn lengths(chance: &mut Chance, counts: &mut Counts) {
 
 /// Question 9 alone, at every place: 4,095 is in range, more is not.
 fn samples(chance: &mut Chance, counts: &mut Counts) {
-    for (width, height) in [(2, 2), (3, 2), (2, 3), (7, 5), (16, 8), (33, 2), (2, 35)] {
+    for (width, height) in SHAPES {
         let sound = Ask::sound(chance, width, height);
         for place in 0..width * height {
-            for (value, number) in [(4095, 0), (4096, 9), (4097, 9), (8191, 9), (32_768, 9), (65_535, 9)] {
+            for (value, in_range) in TRIES {
                 let mut ask = sound.clone();
                 ask.mosaic[place] = value;
+                let number = if in_range { 0 } else { 9 };
                 answered(&ask, number, &format!("{value} at place {place}"), counts);
             }
         }
-        for value in [4096, 32_768, 65_535] {
+        for value in NO_SAMPLE {
             let ask = Ask { mosaic: vec![value; width * height], ..sound.clone() };
             answered(&ask, 9, "no sample in range", counts);
         }
     }
 }
 
-/// Question 9 in the largest frames, at the first, a middle and the last place.
+/// Question 9 in the largest frames.
 fn samples_in_large_frames(counts: &mut Counts) {
-    let count = 2048 * 2048;
-    let mut ask = Ask::of(2048, 2048, 0, &vec![4095; count]);
-    for (place, value) in [(0, 65_535), (count / 2 + 77, 4096), (count - 1, 4096)] {
+    let mut ask = Ask::of(2048, 2048, 0, &vec![4095; LARGEST]);
+    for (place, value) in TRIES_IN_THE_LARGEST {
         ask.mosaic[place] = value;
         answered(&ask, 9, &format!("{value} at place {place}"), counts);
         ask.mosaic[place] = 4095;
@@ -262,10 +264,7 @@ impl FrameCall for Ask {
                     ask.mosaic = chance.samples(length);
                 }
                 7 => ask.lent[chance.place(3)] = chance.one_of(&[0, count - 1, count + 1]),
-                _ => {
-                    let place = chance.place(ask.mosaic.len());
-                    ask.mosaic[place] = chance.one_of(&[4096, 32_768, 65_535]);
-                }
+                _ => *chance.one_in(&mut ask.mosaic) = chance.one_of(&NO_SAMPLE),
             }
         }
         ask

@@ -1,12 +1,15 @@
 //! The C call `demosaic_update` answers what the reference answers, and leaves in every buffer, and beside it, what the
 //! reference leaves.
 
-use checks::border::reflect;
 use checks::buffers::Buffer;
 use checks::chance::Chance;
-use checks::estimate::estimate;
-use checks::mosaics::{filled, kinds, spike};
-use checks::refusals::{answered, layouts, several_wrongs, sizes, wrong_lengths, Counts, FrameCall, NO_LENGTH};
+use checks::estimate::estimates_of;
+use checks::low_band::weights;
+use checks::mosaics::{filled, kinds, longer_lengths, spike};
+use checks::refusals::{
+    answered, layouts, several_wrongs, short_work, sizes, sufficient_work, wrong_lengths, Counts, FrameCall,
+    LARGEST, NO_LENGTH, NO_SAMPLE, SHAPES, TRIES, TRIES_IN_THE_LARGEST,
+};
 use checks::update::update;
 
 #[path = "../src/library.rs"]
@@ -69,9 +72,7 @@ fn accepted(ask: &Ask, kind: &str) -> Vec<u16> {
 
 /// The estimate of green.
 fn estimated_green(width: usize, height: usize, layout: u8, mosaic: &[u16]) -> Vec<u16> {
-    let mut planes = [(); 3].map(|_| vec![0; mosaic.len()]);
-    estimate(width, height, layout, mosaic, planes.each_mut().map(|plane| &mut plane[..])).unwrap();
-    let [_, green, _] = planes;
+    let [_, green, _] = estimates_of(width, height, layout, mosaic);
     green
 }
 
@@ -114,11 +115,10 @@ fn every_small_size() {
     }
 }
 
-/// Lengths around those that a machine takes at once, and of which it takes every other place.
 #[test]
 fn longer_lines() {
     let chance = &mut Chance(0x0123_4567_89ab_cdef);
-    for length in (13..=40).chain([63, 64, 65, 66, 127, 128, 129, 130, 255, 256, 257]) {
+    for length in longer_lengths() {
         for other in [2, 3, 6] {
             let [one, another] = [(); 2].map(|_| chance.between(0, 3) as u8);
             all_kinds(chance, length, other, one);
@@ -144,26 +144,12 @@ fn large_frames() {
     accepted(&Ask { green, ..ask }, "random, its estimate");
 }
 
-/// Low split and low join together.
-const LOW_TAPS: [i32; 7] = [-1, 0, 9, 16, 9, 0, -1];
-
-/// The weights that the values of a square small plane of green have in the sum at row i, column j. Those of the colour
-/// are the same with the other sign, and 1,024 more at the place itself.
-fn weights(side: usize, i: usize, j: usize) -> Vec<i32> {
-    let mut weights = vec![0; side * side];
-    for (row, down) in (i as i64 - 3..).zip(LOW_TAPS) {
-        for (column, across) in (j as i64 - 3..).zip(LOW_TAPS) {
-            weights[reflect(side, row) * side + reflect(side, column)] += down * across;
-        }
-    }
-    weights
-}
-
 /// Green and the colour at the ends of their range, so that every value moves the sum at row i, column j of the small
-/// planes towards this end: as far beyond what the clipping keeps as can be.
+/// planes towards this end: as far beyond what the clipping keeps as can be. The weights of the colour's values are those
+/// of green's with the other sign, and 1,024 more at the place itself.
 fn assert_clipped(side: usize, i: usize, j: usize, end: u16) {
     let width = 2 * side;
-    let weights = weights(side, i, j);
+    let weights = weights(side, side, i, j);
     let of_sign = |weight| if weight < 0 { 4095 - end } else { end };
     // the four places of a small row and column hold the same
     let green = filled(width, width, |row, column| of_sign(weights[row / 2 * side + column / 2]));
@@ -203,7 +189,7 @@ fn the_detail_of_case_d() {
 /// Questions 6 and 8, each answered no alone: of each buffer, and of two given ones whose lengths together would be right.
 /// Then work buffers that suffice.
 fn lengths(chance: &mut Chance, counts: &mut Counts) {
-    for (width, height) in [(2, 2), (3, 2), (2, 3), (7, 5), (16, 16), (17, 3), (64, 2)] {
+    for (width, height) in SHAPES {
         let count = width * height;
         let sound = Ask::sound(chance, width, height);
         for length in wrong_lengths(width, height) {
@@ -216,23 +202,18 @@ fn lengths(chance: &mut Chance, counts: &mut Counts) {
             answered(&ask, 6, "both lengths", counts);
             answered(&Ask { mosaic, green: rest, ..sound.clone() }, 6, "both lengths together right", counts);
         }
-        for work in [0, 1, count - 1, count, count + 1, 2 * count, 4 * count, 7 * count, 8 * count - 1] {
+        for work in short_work(count) {
             answered(&Ask { work, ..sound.clone() }, 8, &format!("a work buffer of {work}"), counts);
         }
-        for more in [0, 1, 2, 3, 8, count, 8 * count, 1000] {
-            let kind = format!("a work buffer of {more} more");
-            answered(&Ask { work: 8 * count + more, ..sound.clone() }, 0, &kind, counts);
+        for work in sufficient_work(count) {
+            answered(&Ask { work, ..sound.clone() }, 0, &format!("a work buffer of {work}"), counts);
         }
     }
 }
 
-/// What is tried at a place of the mosaic or of green, and whether it is in range.
-const TRIES: [(u16, bool); 6] =
-    [(4095, true), (4096, false), (4097, false), (8191, false), (32_768, false), (65_535, false)];
-
 /// Questions 9 and 10, each answered no alone, at every place: 4,095 is in range, more is not.
 fn samples(chance: &mut Chance, counts: &mut Counts) {
-    for (width, height) in [(2, 2), (3, 2), (2, 3), (7, 5), (16, 8), (33, 2), (2, 35)] {
+    for (width, height) in SHAPES {
         let sound = Ask::sound(chance, width, height);
         for place in 0..width * height {
             for (value, in_range) in TRIES {
@@ -245,7 +226,7 @@ fn samples(chance: &mut Chance, counts: &mut Counts) {
                 answered(&ask, if in_range { 0 } else { 10 }, &format!("green, {kind}"), counts);
             }
         }
-        for value in [4096, 32_768, 65_535] {
+        for value in NO_SAMPLE {
             let values = vec![value; width * height];
             let ask = Ask { mosaic: values.clone(), ..sound.clone() };
             answered(&ask, 9, "no sample in range", counts);
@@ -255,12 +236,11 @@ fn samples(chance: &mut Chance, counts: &mut Counts) {
     }
 }
 
-/// Questions 8, 9 and 10 in the largest frames, the last two at the first, a middle and the last place.
+/// Questions 8, 9 and 10 in the largest frames.
 fn large_frames_refused(counts: &mut Counts) {
-    let count = 2048 * 2048;
-    let white = vec![4095; count];
+    let white = vec![4095; LARGEST];
     let mut ask = Ask::of(2048, 2048, 0, &white, &white);
-    for (place, value) in [(0, 65_535), (count / 2 + 77, 4096), (count - 1, 4096)] {
+    for (place, value) in TRIES_IN_THE_LARGEST {
         let kind = format!("{value} at place {place}");
         ask.mosaic[place] = value;
         answered(&ask, 9, &format!("mosaic, {kind}"), counts);
@@ -269,7 +249,7 @@ fn large_frames_refused(counts: &mut Counts) {
         answered(&ask, 10, &format!("green, {kind}"), counts);
         ask.green[place] = 4095;
     }
-    answered(&Ask { work: 8 * count - 1, ..ask }, 8, "a work buffer of one less", counts);
+    answered(&Ask { work: 8 * LARGEST - 1, ..ask }, 8, "a work buffer of one less", counts);
 }
 
 impl FrameCall for Ask {
@@ -297,14 +277,8 @@ impl FrameCall for Ask {
                     *buffer = chance.samples(length);
                 }
                 8 => ask.work = chance.one_of(&[0, count, 8 * count - 1]),
-                9 => {
-                    let place = chance.place(ask.mosaic.len());
-                    ask.mosaic[place] = chance.one_of(&[4096, 32_768, 65_535]);
-                }
-                _ => {
-                    let place = chance.place(ask.green.len());
-                    ask.green[place] = chance.one_of(&[4096, 32_768, 65_535]);
-                }
+                9 => *chance.one_in(&mut ask.mosaic) = chance.one_of(&NO_SAMPLE),
+                _ => *chance.one_in(&mut ask.green) = chance.one_of(&NO_SAMPLE),
             }
         }
         ask
