@@ -10,7 +10,7 @@ use Rattle.integers.specs.Numbers.{rounded}
 use Rattle.integers.proofs.Tests.{cond-cases}
 use Rattle.integers.proofs.Clamping.{clamp-sample}
 use Rattle.turns.proofs.Commuting.{Agree}
-use Rattle.projection.specs.Projection.{held-sum, projected}
+use Rattle.projection.specs.Projection.{projected}
 use Rattle.projection.proofs.Projection.{projected-agrees}
 use Rattle.rounds.specs.Rounds.{limit-of, kept, put-observed, round, after-rounds, rewritten}
 

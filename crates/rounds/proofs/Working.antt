@@ -2,7 +2,7 @@
 use mathlib.Core.Path.{_≡_, refl, sym, _∙_, ap, subst}
 use mathlib.Core.Bool.{cond, _&&_}
 use mathlib.Core.List.{List}
-use Prim.Native.Nat.{ℕ, suc, _+_, _*_, _/_, _%_, _≤_, _<_}
+use Prim.Native.Nat.{ℕ, _+_, _*_, _/_, _%_, _≤_, _<_}
 use native.Mathlib.Nat.{zero-add}
 use native.Mathlib.Numerals.{add-one}
 use native.Mathlib.Omega.{arith}
@@ -14,7 +14,7 @@ use Rattle.integers.proofs.Bounds.{abs-sub}
 use Rattle.integers.proofs.Lists.{tabulate-cong}
 use Rattle.turns.specs.Frames.{listing, plane-of}
 use Rattle.turns.proofs.Commuting.{Agree}
-use Rattle.turns.proofs.Frames.{place-inside, row-inside, column-inside}
+use Rattle.turns.proofs.Frames.{place-inside}
 use Rattle.lines.specs.Lines.{value}
 use Rattle.projection.specs.Projection.{projected}
 use Rattle.projection.specs.Planes.{own-plane, guide-plane, Projectable}

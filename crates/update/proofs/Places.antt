@@ -3,7 +3,7 @@
 use mathlib.Core.Path.{_≡_, refl, sym, _∙_, ap, subst}
 use mathlib.Core.Bool.{Bool, true, false, cond, _&&_}
 use mathlib.Core.List.{List}
-use Prim.Native.Nat.{ℕ, _+_, _*_, _-_, _/_, _%_, _≤_, _<_}
+use Prim.Native.Nat.{ℕ, _+_, _*_, _/_, _%_, _≤_, _<_}
 use native.Mathlib.Nat.{mul-le-mul-left, div-add-mod'}
 use native.Mathlib.Omega.{arith}
 use lib.Arith.{digits-div, digits-mod}
@@ -13,7 +13,7 @@ use lib.ListN.{getD, length}
 use lib.Signed.{nonNeg}
 use borrow.Author.Tests.{ne-eqb}
 use Rattle.integers.specs.Lists.{overwrite}
-use Rattle.integers.proofs.Tests.{and-left, and-right}
+use Rattle.integers.proofs.Tests.{and-left}
 use Rattle.integers.proofs.Bounds.{abs-sub}
 use Rattle.integers.proofs.Clamping.{clamp-sample}
 use Rattle.integers.proofs.Lists.{tabulate-cong, tabulate-getD, length-overwrite, overwrite-in, overwrite-cong, overwrite-again}

@@ -1,7 +1,7 @@
 -- `details::outer_along` meets its contract: each line is padded, and then the filters go along it.
 -- Assumes nothing.
 use mathlib.Core.Path.{sym, subst}
-use Prim.Native.Nat.{_+_, _-_, _≤_}
+use Prim.Native.Nat.{_+_, _≤_}
 use native.Mathlib.Omega.{arith}
 use lib.IntN.{_+ℤ_, _-ℤ_}
 use lib.ListN.{length}

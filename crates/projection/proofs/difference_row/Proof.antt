@@ -1,6 +1,5 @@
 -- `projection::difference_row` meets its contract: the row's places are found, and the differences laid down there.
 -- Assumes nothing.
-use Prim.Native.Nat.{_-_}
 use native.Mathlib.Omega.{arith}
 use Rattle.lines.proofs.Lines.{run-wider}
 use Rattle.projection.proofs.Rows.{slot-room}

@@ -1,7 +1,6 @@
 -- `projection::parts_row` meets its contract: both lines along the columns, what lies outside along them, and that joined.
 -- Assumes nothing.
 use mathlib.Core.Path.{sym, _∙_, subst}
-use Prim.Native.Nat.{_-_}
 use native.Mathlib.Omega.{arith}
 use denote.Ref.{now}
 use mir.Syntax.{w32}

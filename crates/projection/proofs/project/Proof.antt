@@ -1,7 +1,7 @@
 -- `projection::project` meets its contract: the rings and lines are its own.
 -- Assumes nothing.
 use mathlib.Core.Path.{sym, _∙_, subst}
-use Prim.Native.Nat.{_*_, _-_, _/_, _%_}
+use Prim.Native.Nat.{_*_, _/_, _%_}
 use native.Mathlib.Omega.{arith}
 use denote.Ref.{now}
 use mir.Facts.{toZ-ofZ as back}

@@ -1,7 +1,6 @@
 -- `projection::slot_after` meets its contract: a remainder by the number of slots, and a row has room there.
 -- Assumes nothing.
 use mathlib.Core.Path.{ap}
-use Prim.Native.Nat.{_-_}
 use native.Mathlib.Nat.{mul-le-mul}
 use native.Mathlib.Omega.{arith}
 use Rattle.projection.specs.Rows.{slot}
