@@ -194,7 +194,7 @@ fn settle(low: i32, high: i32, x: i32, sum: i32) -> i32
     requires { ⌜ (natAbs x ≤ 131070) × (natAbs sum ≤ 1610612736) ⌝ }
     ensures { λ r. ⌜ r ≡ settled low high x sum ⌝ }
 {
-    filters::rescale(1024 * x - sum, low, high)
+    filters::rescale_bounded(1024 * x - sum, low, high)
 }
 
 // A line of n, from `at` on, less what is joined from five rows of the joined parts along the columns.

@@ -4,7 +4,8 @@ use mathlib.Core.Bool.{true, false}
 use mathlib.Core.List.{[], _∷_}
 use Prim.Native.Nat.{ℕ, zero, suc, _/_, _≤_, _<_}
 use native.Mathlib.Omega.{arith}
-use lib.Dec.{T, ltb, ltb→lt, lit<}
+use native.Mathlib.Nat.{le-trans}
+use lib.Dec.{T, ltb, leb, ltb→lt, leb→le, lit<}
 use lib.IntN.{ℤ, pos, negsuc, negℤ, natAbs, _+ℤ_, _-ℤ_}
 use lib.Signed.{ltZ, mag, nonNeg, quotZ}
 use mir.Syntax.{w32}
@@ -13,9 +14,9 @@ use borrow.Author.Tests.{le-ltb}
 use Rattle.integers.specs.Numbers.{whole-divided, rounded, clamp}
 use Rattle.integers.proofs.Tests.{never}
 use Rattle.integers.proofs.Linear.{linear, number, x₀, neg, _⊕_, _⊖_}
-use Rattle.integers.proofs.Bounds.{abs-minus, minus-pos, fits-abs}
+use Rattle.integers.proofs.Bounds.{abs-minus, minus-pos, fits-abs, Bound}
 use Rattle.integers.proofs.Rounding.{whole-divided-next}
-use Rattle.filters.specs.Bank.{brought-back}
+use Rattle.filters.specs.Bank.{brought-back, Roundable}
 
 not-below {ℓ} : {X : Type ℓ} (m : ℕ) → ltZ (pos m) (pos 0) ≡ true → X
 not-below m t = never (sym t ∙ le-ltb m 0 (omega arith))
@@ -76,3 +77,7 @@ rounded-from s =
 pub rounded-examples : (rounded 1024 (pos 512) ≡ pos 1) × (rounded 1024 (negℤ (pos 512)) ≡ pos 0) × (rounded 1024 (negℤ (pos 513)) ≡ negℤ (pos 1)) × (brought-back 4095 (negℤ (pos 513)) ≡ 0)
 unfolding rounded whole-divided brought-back clamp
 rounded-examples = (refl, refl, refl, refl)
+
+-- a sum that is known to be small enough can be rounded: `roundable (search bounds depth 14) tt`
+pub roundable : {s : ℤ} (b : Bound s) → T (leb (b .most) 2147483135) → Roundable s
+roundable b t = record { small = le-trans (b .holds) (leb→le (b .most) 2147483135 t) }

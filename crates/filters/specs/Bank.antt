@@ -96,3 +96,7 @@ Small z = natAbs z ≤ 134217728
 pub record Distance (most : ℤ) : Type 0 where
   pub sign : T (nonNeg most)
   pub small : natAbs most ≤ 1073741824
+
+-- a sum to which half of 1,024 can be added, as a number of the machine
+pub record Roundable (s : ℤ) : Type 0 where
+  pub small : natAbs s ≤ 2147483135

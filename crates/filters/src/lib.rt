@@ -1,8 +1,8 @@
 // Inner: the filters of document 01's bank, one number at a time. LLVM inlines each, so that the loops over them are uniform.
 ghost use mathlib.Core.Path.{_≡_};
 ghost use lib.IntN.{pos};
-ghost use Rattle.integers.specs.Numbers.{whole-divided, rounded};
-ghost use Rattle.filters.specs.Bank.{Small, low-split, high-split, low-join, high-join, weighted, rescaled, brought-back};
+ghost use Rattle.integers.specs.Numbers.{whole-divided, rounded, clamp};
+ghost use Rattle.filters.specs.Bank.{Small, Roundable, low-split, high-split, low-join, high-join, weighted, rescaled, brought-back};
 
 // 1 2 1
 pub fn low_split(a: i32, b: i32, c: i32) -> i32
@@ -58,18 +58,31 @@ pub fn rounded_quotient(sum: i32) -> i32
     }
 }
 
+fn clipped(z: i32, low: i32, high: i32) -> i32
+    ensures { λ r. ⌜ r ≡ clamp low high z ⌝ }
+{
+    if z < low {
+        return low;
+    }
+    if high < z {
+        return high;
+    }
+    z
+}
+
 // A sum brought back to low..high: the rounded quotient, clipped.
 pub fn rescale(sum: i32, low: i32, high: i32) -> i32
     ensures { λ r. ⌜ r ≡ rescaled low high sum ⌝ }
 {
-    let quotient = rounded_quotient(sum);
-    if quotient < low {
-        return low;
-    }
-    if high < quotient {
-        return high;
-    }
-    quotient
+    clipped(rounded_quotient(sum), low, high)
+}
+
+// The same, of a sum to which 512 can be added: it does not go by the sum's sign, which a loop over vectors would do both ways.
+pub fn rescale_bounded(sum: i32, low: i32, high: i32) -> i32
+    requires { ⌜ Roundable sum ⌝ }
+    ensures { λ r. ⌜ r ≡ rescaled low high sum ⌝ }
+{
+    clipped(whole_divided(sum + 512), low, high)
 }
 
 // A sum brought back to a sample, 0..4,095.

@@ -47,16 +47,13 @@ fn difference_row(
 {
     let row = at + r * width;
     let guide_row = from + r * down;
-    details::difference_line(
-        own,
-        row,
-        guide,
-        guide_row,
-        across,
-        width,
-        ring,
-        r % 3 * width,
-    );
+    let slot = r % 3 * width;
+    // with 1 as a number, the loop reads the guide in whole vectors
+    if across == 1 {
+        details::difference_line(own, row, guide, guide_row, 1, width, ring, slot);
+    } else {
+        details::difference_line(own, row, guide, guide_row, across, width, ring, slot);
+    }
 }
 
 // Row r of the joined parts, into its slots, from three rows of the differences. The other five lines are scratch.
@@ -216,14 +213,15 @@ pub fn project(
     requires { ⌜ Distance limit × Projectable (now own) at (now guide) from down across width height ⌝ }
     ensures { λ _. ⌜ now (own .exit) ≡ overwrite (now (own .entry)) at (width * height) (λ k. projected limit low high width height (guide-plane (now (guide .entry)) from down across) (own-plane (now (own .entry)) at width) (k / width) (k % width)) ⌝ }
 {
-    let mut differences = [0i32; 6144];
-    let mut line1 = [0i32; 2050];
-    let mut line2 = [0i32; 2050];
-    let mut parts = [0i32; 2052];
-    let mut minus = [0i32; 2052];
-    let mut plus = [0i32; 2052];
-    let mut apart = [0i32; 10240];
-    let mut together = [0i32; 10240];
+    // Longer than they need be: lines some multiple of 4,096 bytes apart would hinder each other in the machine's loads and stores.
+    let mut differences = [0i32; 6264];
+    let mut line1 = [0i32; 2168];
+    let mut line2 = [0i32; 2168];
+    let mut parts = [0i32; 2168];
+    let mut minus = [0i32; 2168];
+    let mut plus = [0i32; 2168];
+    let mut apart = [0i32; 10360];
+    let mut together = [0i32; 10360];
     project_rows(
         own,
         at,

@@ -1,5 +1,12 @@
 -- `projection::difference_row` meets its contract: the row's places are found, and the differences laid down there.
 -- Assumes nothing.
+use mathlib.Core.Path.{_≡_, sym, _∙_, ap, subst}
+use Prim.Native.Nat.{ℕ, _+_, _*_}
+use denote.Ref.{now}
+use Rattle.turns.specs.Filling.{InRow}
+use Rattle.integers.specs.Lists.{overwrite}
+use Rattle.details.specs.Details.{difference-line}
+use Rattle.projection.specs.Rows.{slot}
 use native.Mathlib.Omega.{arith}
 use Rattle.lines.proofs.Lines.{run-wider}
 use Rattle.projection.proofs.Rows.{slot-room}
@@ -25,19 +32,35 @@ add-guide-row c =
     let h = s .pre .0 .1 .inside 0 (s .pre .1 .0) in
     omega arith
 
-mul-difference-line : tie.Need-mul-difference-line
-mul-difference-line c = let s = c .before .before in omega (arith, slot-room 3 (s .args .width) (s .args .r) (omega arith))
+mul-slot : tie.Need-mul-slot
+mul-slot c = let s = c .before in omega (arith, slot-room 3 (s .args .width) (s .args .r) (omega arith))
 
 difference-line-requires : tie.Need-difference-line-requires
 difference-line-requires c κs =
-    let s = c .before .before in
+    let s = c .before .before .before in
+    let one : s .args .across ≡ 1 = c .before .if1 .taken in
+    (run-wider (omega arith) (s .pre .0 .0), subst (λ (q : ℕ). InRow (now (s .args .guide)) (s .args .width) (s .args .from + s .args .r * s .args .down) q) one (s .pre .0 .1), omega (arith, slot-room 3 (s .args .width) (s .args .r) (omega arith)))
+
+difference-line-requires-2 : tie.Need-difference-line-requires-2
+difference-line-requires-2 c κs =
+    let s = c .before .before .before in
     (run-wider (omega arith) (s .pre .0 .0), s .pre .0 .1, omega (arith, slot-room 3 (s .args .width) (s .args .r) (omega arith)))
 
 same-length : tie.Need-same-length
 same-length c = search needs
 
 returns : tie.Need-returns
-returns c = search needs
+returns c =
+    let s = c .before .before .before .before .before in
+    let one : s .args .across ≡ 1 = c .before .before .before .if1 .taken in
+    c .before .difference-line .ensures
+    ∙ ap (λ (q : ℕ). overwrite (now (s .args .ring)) (slot 3 (s .args .width) (s .args .r)) (s .args .width) (difference-line (now (s .args .own)) (s .args .at + s .args .r * s .args .width) (now (s .args .guide)) (s .args .from + s .args .r * s .args .down) q)) (sym one)
+
+same-length-2 : tie.Need-same-length-2
+same-length-2 c = search needs
+
+returns-2 : tie.Need-returns-2
+returns-2 c = search needs
 
 pub difference-row-spec : {M : Type 1} → statement M
 difference-row-spec =
@@ -47,7 +70,10 @@ difference-row-spec =
     add-row
     mul-guide-row
     add-guide-row
-    mul-difference-line
+    mul-slot
     difference-line-requires
+    difference-line-requires-2
     same-length
-    returns)
+    returns
+    same-length-2
+    returns-2)
