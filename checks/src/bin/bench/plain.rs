@@ -1,25 +1,14 @@
-//! Times the library's split, join, first estimates and green update against plain Rust: `cargo run --release --bin bench`.
+//! The calls in plain Rust.
 //!
-//! The plain calls ask the questions too. Split and join are one pass over the rows: the column sums of a row go into
-//! local lines with a few places more on either side, and the row taps run over these lines. The estimates go place by
-//! place over the 5 by 5 neighbourhood, which is reflected near the border only. The update filters the difference between
-//! green and the colour in the manner of the split.
+//! They ask the questions too. Split and join are one pass over the rows: the column sums of a row go into local lines with
+//! a few places more on either side, and the row taps run over these lines. The estimates go place by place over the 5 by 5
+//! neighbourhood, which is reflected near the border only. The update filters the difference between green and the colour
+//! in the manner of the split.
 
 use checks::bank::{JOIN_LIMIT, SPLIT_LIMIT};
 use checks::border::reflect;
-use checks::chance::Chance;
 use checks::mosaic::{red_parities, shape_refusal};
 use std::array::from_fn;
-use std::hint::black_box;
-use std::time::{Duration, Instant};
-
-#[path = "../library.rs"]
-mod library;
-
-type Split = fn(usize, usize, &[i32], [&mut [i32]; 4]) -> Result<(), u32>;
-type Join = fn(usize, usize, [&[i32]; 4], &mut [i32]) -> Result<(), u32>;
-type Estimate = fn(usize, usize, u8, &[u16], [&mut [u16]; 3]) -> Result<(), u32>;
-type Update = fn(usize, usize, u8, &[u16], &mut [u16], &mut [i32]) -> Result<(), u32>;
 
 /// How many places a line has more on either side: as many as the longest taps reach.
 const REACH: usize = 3;
@@ -77,7 +66,7 @@ fn split_taps([a, b, c]: [&[i32]; 3], low: &mut [i32], high: &mut [i32]) {
     }
 }
 
-fn split(width: usize, height: usize, plane: &[i32], bands: [&mut [i32]; 4]) -> Result<(), u32> {
+pub fn split(width: usize, height: usize, plane: &[i32], bands: [&mut [i32]; 4]) -> Result<(), u32> {
     let lengths = bands.each_ref().map(|band| band.len());
     questions(width, height, &[plane], &lengths, SPLIT_LIMIT)?;
     let (mut low, mut high) = (EMPTY, EMPTY);
@@ -106,7 +95,7 @@ fn join_taps(low: [&[i32]; 5], high: [&[i32]; 5], sums: &mut [i32]) {
     }
 }
 
-fn join(width: usize, height: usize, bands: [&[i32]; 4], sums: &mut [i32]) -> Result<(), u32> {
+pub fn join(width: usize, height: usize, bands: [&[i32]; 4], sums: &mut [i32]) -> Result<(), u32> {
     questions(width, height, &bands, &[sums.len()], JOIN_LIMIT)?;
     let (mut low, mut high) = (EMPTY, EMPTY);
     for (i, sums) in sums.chunks_exact_mut(width).enumerate() {
@@ -205,7 +194,7 @@ fn estimate_row(rows: [&[u16]; 5], colour: usize, own: &mut [u16], green: &mut [
     estimate_inner(rows, &masks[2..], &mut own[inner.clone()], &mut green[inner.clone()], &mut other[inner]);
 }
 
-fn estimate(
+pub fn estimate(
     width: usize,
     height: usize,
     layout: u8,
@@ -272,7 +261,7 @@ fn update_at(width: usize, mosaic: &[u16], green: &mut [u16], (i, j): (usize, us
     }
 }
 
-fn update(
+pub fn update(
     width: usize,
     height: usize,
     layout: u8,
@@ -298,129 +287,4 @@ fn update(
     update_at(width, mosaic, green, (red_row, red_column), work);
     work[..8 * mosaic.len()].fill(0);
     Ok(())
-}
-
-/// A square plane of samples, its bands and their sums. Both are timed with the same buffers.
-struct Buffers {
-    side: usize,
-    plane: Vec<i32>,
-    bands: [Vec<i32>; 4],
-    sums: Vec<i32>,
-}
-
-impl Buffers {
-    fn new(chance: &mut Chance, side: usize) -> Buffers {
-        let plane = chance.samples(side * side).into_iter().map(i32::from).collect();
-        Buffers { side, plane, bands: [(); 4].map(|_| vec![0; side * side]), sums: vec![0; side * side] }
-    }
-
-    fn split(&mut self, call: Split) {
-        let bands = self.bands.each_mut().map(|band| &mut band[..]);
-        call(self.side, self.side, black_box(&self.plane), black_box(bands)).unwrap();
-    }
-
-    fn join(&mut self, call: Join) {
-        let bands = self.bands.each_ref().map(|band| &band[..]);
-        call(self.side, self.side, black_box(bands), black_box(&mut self.sums)).unwrap();
-    }
-
-    /// Both give the same bands and sums, and the sums brought back are the plane.
-    fn check(&mut self) {
-        self.split(library::split);
-        self.join(library::join);
-        let found = (self.bands.clone(), self.sums.clone());
-        self.bands.iter_mut().chain([&mut self.sums]).for_each(|buffer| buffer.fill(0));
-        self.split(split);
-        self.join(join);
-        assert!(found.0 == self.bands, "split {0} by {0}: the results differ", self.side);
-        assert!(found.1 == self.sums, "join {0} by {0}: the results differ", self.side);
-        let brought_back = self.sums.iter().map(|&sum| i32::from(library::bring_back(sum)));
-        let plane = self.plane.iter().copied();
-        assert!(brought_back.eq(plane), "{0} by {0}: the plane does not come back", self.side);
-    }
-}
-
-/// A square mosaic, its planes and a work buffer. Both are timed with the same buffers.
-struct FrameBuffers {
-    side: usize,
-    mosaic: Vec<u16>,
-    planes: [Vec<u16>; 3],
-    work: Vec<i32>,
-}
-
-impl FrameBuffers {
-    fn new(chance: &mut Chance, side: usize) -> FrameBuffers {
-        let count = side * side;
-        let planes = [(); 3].map(|_| vec![0; count]);
-        FrameBuffers { side, mosaic: chance.samples(count), planes, work: vec![1; 8 * count] }
-    }
-
-    fn estimate(&mut self, call: Estimate) {
-        let planes = self.planes.each_mut().map(|plane| &mut plane[..]);
-        call(self.side, self.side, 0, black_box(&self.mosaic), black_box(planes)).unwrap();
-    }
-
-    /// Green is what the call before left.
-    fn update(&mut self, call: Update) {
-        let (green, work) = (&mut self.planes[1], &mut self.work);
-        call(self.side, self.side, 0, black_box(&self.mosaic), black_box(green), black_box(work)).unwrap();
-    }
-
-    /// Both give the same estimates, and the same green after the update, and leave zeros in the work buffer.
-    fn check(&mut self) {
-        let mut found = Vec::new();
-        let calls: [(Estimate, Update); 2] = [(library::estimate, library::update), (estimate, update)];
-        for (estimate, update) in calls {
-            self.estimate(estimate);
-            let estimates = self.planes.clone();
-            self.work.fill(1);
-            self.update(update);
-            assert!(self.work.iter().all(|&number| number == 0), "update {0} by {0}: work left", self.side);
-            found.push((estimates, self.planes.clone()));
-        }
-        assert!(found[0].0 == found[1].0, "estimate {0} by {0}: the results differ", self.side);
-        assert!(found[0].1 == found[1].1, "update {0} by {0}: the results differ", self.side);
-    }
-}
-
-/// The least time of each call in so many runs, run in turn so that both meet the same load of the machine.
-fn least_times<C: Copy>(runs: usize, calls: [C; 2], mut run: impl FnMut(C)) -> [Duration; 2] {
-    let mut least = [Duration::MAX; 2];
-    for _ in 0..runs {
-        for (least, call) in least.iter_mut().zip(calls) {
-            let start = Instant::now();
-            run(call);
-            *least = start.elapsed().min(*least);
-        }
-    }
-    least
-}
-
-fn print(call: &str, side: usize, [library, plain]: [Duration; 2]) {
-    let shown = |time: Duration| {
-        let nanoseconds = time.as_nanos() as f64;
-        format!("{:.3} ns per pixel ({:.3} ms)", nanoseconds / (side * side) as f64, nanoseconds / 1e6)
-    };
-    let ratio = library.as_secs_f64() / plain.as_secs_f64();
-    let (library, plain) = (shown(library), shown(plain));
-    println!("{call} {side} by {side}: library {library}, plain Rust {plain}, ratio {ratio:.2}");
-}
-
-fn main() {
-    let chance = &mut Chance(0x9e37_79b9_7f4a_7c15);
-    for (side, runs) in [(256, 2000), (1024, 200), (2048, 50)] {
-        let mut buffers = Buffers::new(chance, side);
-        buffers.check();
-        let times = least_times::<Split>(runs, [library::split, split], |call| buffers.split(call));
-        print("split", side, times);
-        let times = least_times::<Join>(runs, [library::join, join], |call| buffers.join(call));
-        print("join", side, times);
-        let mut buffers = FrameBuffers::new(chance, side);
-        buffers.check();
-        let times =
-            least_times::<Estimate>(runs, [library::estimate, estimate], |call| buffers.estimate(call));
-        print("estimate", side, times);
-        let times = least_times::<Update>(runs, [library::update, update], |call| buffers.update(call));
-        print("update", side, times);
-    }
 }
