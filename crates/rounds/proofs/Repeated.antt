@@ -1,17 +1,16 @@
 -- The laws of rounds: a round is the projection on green with the observed samples put in, what it sees of its planes, and what holds of
 -- a working plane after any number of rounds. Assumes nothing.
-use mathlib.Core.Path.{_≡_, refl, sym, _∙_, ap, subst}
+use mathlib.Core.Path.{_≡_, refl, sym, _∙_, ap}
 use mathlib.Core.Bool.{cond, _&&_}
 use Prim.Native.Nat.{ℕ, zero, suc, _%_, _≤_, _<_}
-use lib.Dec.{T, eqb}
-use lib.IntN.{ℤ, pos, natAbs}
-use lib.Signed.{nonNeg}
+use lib.Dec.{eqb}
+use lib.IntN.{ℤ, pos}
 use Rattle.integers.specs.Numbers.{rounded}
 use Rattle.integers.proofs.Tests.{cond-cases}
-use Rattle.integers.proofs.Clamping.{clamp-sample}
 use Rattle.turns.proofs.Commuting.{Agree}
 use Rattle.projection.specs.Projection.{projected}
 use Rattle.projection.proofs.Projection.{projected-agrees}
+use Rattle.work_buffer.proofs.Buffer.{SampleTo, clipped-sample}
 use Rattle.rounds.specs.Rounds.{limit-of, kept, put-observed, round, after-rounds, rewritten}
 
 -- ---- a round
@@ -51,14 +50,10 @@ module _ (P : ℤ → Type 0) (top threshold w h a b : ℕ) (mosaic green : ℕ 
   after-rounds-hold zero r c hr hc = first r c hr hc
   after-rounds-hold (suc n) r c hr hc = unfold round put-observed in cond-cases (eqb (r % 2) a && eqb (c % 2) b) _ _ P (λ t. observed r c hr hc) (λ t. keeps _)
 
--- a number that is a sample at most m
-abbrev pub SampleTo : ℕ → ℤ → Type 0
-SampleTo m z = T (nonNeg z) × (natAbs z ≤ m)
-
--- what is kept is one
+-- what is kept is a sample
 pub kept-sample : (top : ℕ) (s : ℤ) → SampleTo top (kept top s)
 unfolding kept
-kept-sample top s = let c = clamp-sample top (rounded 1024 s) in (subst (λ (z : ℤ). T (nonNeg z)) (c .1) tt, c .0)
+kept-sample top s = clipped-sample top (rounded 1024 s)
 
 -- so red and blue stay within the ceiling
 pub rewritten-bound : (top n threshold w h a b : ℕ) (mosaic green plane : ℕ → ℕ → ℕ)

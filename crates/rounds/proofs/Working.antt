@@ -21,9 +21,9 @@ use Rattle.projection.specs.Planes.{own-plane, guide-plane, Projectable}
 use Rattle.projection.proofs.Projection.{projected-agrees}
 use Rattle.work_buffer.specs.Places.{places, place, sample, put, Narrow, Workable}
 use Rattle.work_buffer.specs.Buffer.{with-plane}
-use Rattle.work_buffer.proofs.Buffer.{length-with-plane, with-plane-at, plane-with, with-plane-agree, with-plane-again, with-own-plane, loaded, put-samples, narrow-plane}
+use Rattle.work_buffer.proofs.Buffer.{length-with-plane, with-plane-at, plane-with, with-plane-agree, with-plane-again, with-own-plane, loaded, put-samples, SampleTo, narrow-plane}
 use Rattle.rounds.specs.Rounds.{limit-of, put-observed, round, after-rounds, rewritten}
-use Rattle.rounds.proofs.Repeated.{round-projected, round-agrees, after-rounds-agree, after-rounds-hold, SampleTo, kept-sample}
+use Rattle.rounds.proofs.Repeated.{round-projected, round-agrees, after-rounds-agree, after-rounds-hold, kept-sample}
 
 -- ---- the planes that the projection is given
 -- the working plane, first in its list

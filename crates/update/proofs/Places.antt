@@ -10,7 +10,6 @@ use lib.Arith.{digits-div, digits-mod}
 use lib.Dec.{T, eqb, eqb→eq}
 use lib.IntN.{ℤ, pos, natAbs}
 use lib.ListN.{getD, length}
-use lib.Signed.{nonNeg}
 use borrow.Author.Tests.{ne-eqb}
 use Rattle.integers.specs.Lists.{overwrite}
 use Rattle.integers.proofs.Tests.{and-left}
@@ -26,39 +25,24 @@ use Rattle.projection.specs.Planes.{own-plane, guide-plane, Projectable}
 use Rattle.projection.proofs.Projection.{projected-agrees}
 use Rattle.work_buffer.specs.Places.{places, place, sample, put, Narrow, Workable}
 use Rattle.work_buffer.specs.Buffer.{with-plane}
-use Rattle.work_buffer.proofs.Buffer.{with-plane-at}
+use Rattle.work_buffer.proofs.Buffer.{with-plane-at, clipped-sample, narrow-plane}
 use Rattle.work_buffer.proofs.Places.{length-put, place-inside, small-inside, row-place, small-place, small-in-list, put-colour}
 use Rattle.update.specs.Update.{small-plane, mixed, put-mixed}
 use Rattle.update.specs.Places.{small-mixed, with-mixed}
 use Rattle.update.proofs.Mixing.{mixed-projected, own-mixed, put-mixed-own}
 
 -- ---- what is projected
--- is a sample, whatever the limit
-projected-sample : (limit : ℤ) (top w h : ℕ) (guide own : ℕ → ℕ → ℤ) (r c : ℕ)
-    → let z = projected limit (pos 0) (pos top) w h guide own r c in (natAbs z ≤ top) × (pos (natAbs z) ≡ z)
-unfolding projected
-projected-sample limit top w h guide own r c = clamp-sample top _
-
--- and is what is mixed, with the limit 0
+-- is what is mixed, with the limit 0
 projected-mixed : (top w h : ℕ) (green colour : ℕ → ℕ → ℤ) (r c : ℕ) → projected (pos 0) (pos 0) (pos top) w h colour green r c ≡ pos (mixed top w h green colour r c)
-projected-mixed top w h green colour r c =
-    sym (projected-sample (pos 0) top w h colour green r c .1) ∙ ap pos (sym (mixed-projected top w h green colour r c))
+unfolding projected
+projected-mixed top w h green colour r c = sym (clamp-sample top _ .1) ∙ ap pos (sym (mixed-projected top w h green colour r c))
 
 -- laid down, it may be narrowed
-pub projected-narrow : (limit : ℤ) (top w h n : ℕ) (guide own : ℕ → ℕ → ℤ) (l : List ℤ) {laid : List ℤ} → top ≤ 65535 → n ≤ length l
-    → laid ≡ overwrite l 0 n (λ k. projected limit (pos 0) (pos top) w h guide own (k / w) (k % w)) → Narrow laid 0 n
-projected-narrow limit top w h n guide own l {laid} small room e = record {
-  inside = omega (arith, ap length e, length-overwrite l 0 n (λ k. projected limit (pos 0) (pos top) w h guide own (k / w) (k % w)) (omega arith), room);
-  sign = λ k hk. subst (λ (z : ℤ). T (nonNeg z)) (sample-at k .1 ∙ sym (at k hk)) tt;
-  small = λ k hk. omega (arith, ap natAbs (at k hk), sample-at k .0, small);
-}
-  where
-    sample-at : (k : ℕ)
-        → let z = projected limit (pos 0) (pos top) w h guide own (k / w) (k % w) in (natAbs z ≤ top) × (pos (natAbs z) ≡ z)
-    sample-at k = projected-sample limit top w h guide own (k / w) (k % w)
-
-    at : (k : ℕ) → k < n → value laid (0 + k) ≡ projected limit (pos 0) (pos top) w h guide own (k / w) (k % w)
-    at k hk = ap (λ (x : List ℤ). value x (0 + k)) e ∙ overwrite-in l 0 n (λ k. projected limit (pos 0) (pos top) w h guide own (k / w) (k % w)) k (pos 0) (omega arith) hk
+pub projected-narrow : (limit : ℤ) (top w h : ℕ) (guide own : ℕ → ℕ → ℤ) (l : List ℤ) {laid : List ℤ} → top ≤ 65535 → w * h ≤ length l
+    → laid ≡ overwrite l 0 (w * h) (λ k. projected limit (pos 0) (pos top) w h guide own (k / w) (k % w)) → Narrow laid 0 (w * h)
+unfolding projected with-plane
+projected-narrow limit top w h guide own l small room e =
+    narrow-plane w h l room (projected limit (pos 0) (pos top) w h guide own) e (λ r c hr hc. let s = clipped-sample top _ in (s .0, omega (arith, s .1, small)))
 
 -- ---- a colour's places
 -- the guide is the small plane

@@ -12,6 +12,8 @@ use lib.ListN.{getD, length}
 use lib.Seq.{ext-getD}
 use lib.Signed.{nonNeg}
 use Rattle.integers.specs.Lists.{overwrite}
+use Rattle.integers.specs.Numbers.{clamp}
+use Rattle.integers.proofs.Clamping.{clamp-sample}
 use Rattle.integers.proofs.Lists.{length-overwrite, overwrite-in, overwrite-at, overwrite-cong, overwrite-again}
 use Rattle.turns.specs.Frames.{plane-of}
 use Rattle.turns.proofs.Commuting.{Agree}
@@ -95,9 +97,17 @@ put-samples w h a b ha hb mosaic work room {l} e =
     own k = unfold plane-of in ap (value work) (sym (div-add-mod' k w))
 
 -- ---- numbers that may be narrowed
--- are those of a plane whose values are 16-bit samples
+-- a number that is a sample at most m
+abbrev pub SampleTo : ℕ → ℤ → Type 0
+SampleTo m z = T (nonNeg z) × (natAbs z ≤ m)
+
+-- what is clipped is one
+pub clipped-sample : (top : ℕ) (z : ℤ) → SampleTo top (clamp (pos 0) (pos top) z)
+clipped-sample top z = let c = clamp-sample top z in (subst (λ (x : ℤ). T (nonNeg x)) (c .1) tt, c .0)
+
+-- a plane of 16-bit samples may be narrowed
 pub narrow-plane : (w h : ℕ) (work : List ℤ) → w * h ≤ length work → (p : ℕ → ℕ → ℤ) {l : List ℤ} → l ≡ with-plane w h p work
-    → ((r c : ℕ) → r < h → c < w → T (nonNeg (p r c)) × (natAbs (p r c) ≤ 65535)) → Narrow l 0 (w * h)
+    → ((r c : ℕ) → r < h → c < w → SampleTo 65535 (p r c)) → Narrow l 0 (w * h)
 narrow-plane w h work room p {l} e small = record {
   inside = omega (arith, ap length e, length-with-plane w h work room p, room);
   sign = λ k hk. subst (λ (z : ℤ). T (nonNeg z)) (sym (at k hk)) (small (k / w) (k % w) (row-inside w h k hk) (column-inside w h k hk) .0);

@@ -73,7 +73,7 @@ scatter-requires c κs =
     let s = g .before .before .before .before .before in
     let a = s .args in
     let u = s .pre .0 in (
-      projected-narrow _ _ _ _ _ _ _ _ (omega arith) (omega (arith, room s, g .gather .kept)) (p .project .ensures),
+      projected-narrow _ _ _ _ _ _ _ (omega arith) (omega (arith, room s, g .gather .kept)) (p .project .ensures),
       small-rows (a .width) (a .height) (a .a) (a .b) (s .pre .1) (s .pre .2) (now (a .green)) (u .greens) (u .width-from),
     )
 
