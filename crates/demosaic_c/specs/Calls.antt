@@ -39,5 +39,5 @@ pub record UpdateNumber (f : Frame) (green : List ℕ) (work : List ℤ) (r : �
 -- the rounds, given a frame, so many rounds, a threshold, three planes that held `given` and a work buffer that held `work`
 pub record RoundsNumber (f : Frame) (rounds threshold : ℕ) (given : Planes (List ℕ)) (work : List ℤ) (r : ℕ) (after : Planes (List ℕ)) (work-after : List ℤ) : Type 0 where
   pub number : r ≡ ask (rounds-questions f rounds threshold given (length work))
-  pub buffers : after ≡ if-accepted (rounds-questions f rounds threshold given (length work)) (rounds-lists ceiling f rounds threshold given) given
-  pub buffer : work-after ≡ if-accepted (rounds-questions f rounds threshold given (length work)) (zeroed (f .width) (f .height) work) work
+  pub three-planes : after ≡ if-accepted (rounds-questions f rounds threshold given (length work)) (rounds-lists ceiling f rounds threshold given) given
+  pub work-buffer : work-after ≡ if-accepted (rounds-questions f rounds threshold given (length work)) (zeroed (f .width) (f .height) work) work

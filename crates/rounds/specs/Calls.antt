@@ -52,5 +52,5 @@ rounds-lists top f n threshold given =
 -- answer r, and what the planes and the buffer hold after.
 pub record RoundsResult (f : Frame) (rounds threshold : ℕ) (given : Planes (List ℕ)) (work : List ℤ) (r : RoundsAnswer) (after : Planes (List ℕ)) (work-after : List ℤ) : Type 0 where
   pub answer : Answered number-of-answer (rounds-questions f rounds threshold given (length work)) rounds-answer.Accepted r
-  pub buffers : after ≡ if-accepted (rounds-questions f rounds threshold given (length work)) (rounds-lists ceiling f rounds threshold given) given
-  pub buffer : work-after ≡ if-accepted (rounds-questions f rounds threshold given (length work)) (zeroed (f .width) (f .height) work) work
+  pub three-planes : after ≡ if-accepted (rounds-questions f rounds threshold given (length work)) (rounds-lists ceiling f rounds threshold given) given
+  pub work-buffer : work-after ≡ if-accepted (rounds-questions f rounds threshold given (length work)) (zeroed (f .width) (f .height) work) work
