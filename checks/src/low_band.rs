@@ -23,3 +23,13 @@ pub fn mixed_sum(width: usize, height: usize, k: usize, low: &[i32], detail: &[i
     let differences = low.iter().zip(detail).map(|(low, detail)| low - detail);
     1024 * detail[k] + weights.iter().zip(differences).map(|(weight, value)| weight * value).sum::<i32>()
 }
+
+/// Every place of small square planes with each end of a sample's range: what is asserted of the largest sums there.
+pub fn at_every_place(assert_clipped: impl Fn(usize, usize, usize, u16)) {
+    for side in 2..=9 {
+        for (i, j) in (0..side * side).map(|k| (k / side, k % side)) {
+            assert_clipped(side, i, j, 4095);
+            assert_clipped(side, i, j, 0);
+        }
+    }
+}

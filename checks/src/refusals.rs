@@ -97,7 +97,7 @@ pub fn answered<C: FrameCall>(call: &C, number: u32, kind: &str, counts: &mut Co
 }
 
 /// Questions 1 and 2, each answered no alone; and the ends of their ranges.
-pub fn sizes<C: FrameCall>(chance: &mut Chance, counts: &mut Counts) {
+fn sizes<C: FrameCall>(chance: &mut Chance, counts: &mut Counts) {
     for length in NO_LENGTH.into_iter().chain([1]) {
         for other in [2, 3] {
             // as long as they would have to be, where that is not too long, and as far as the product fits
@@ -115,7 +115,7 @@ pub fn sizes<C: FrameCall>(chance: &mut Chance, counts: &mut Counts) {
 }
 
 /// Question 3 alone, of every layout.
-pub fn layouts<C: FrameCall>(chance: &mut Chance, counts: &mut Counts) {
+fn layouts<C: FrameCall>(chance: &mut Chance, counts: &mut Counts) {
     for layout in 0..=255 {
         let call = C::sound(chance, 5, 4).told(5, 4, layout);
         answered(&call, if layout < 4 { 0 } else { 3 }, "every layout", counts);
@@ -123,7 +123,7 @@ pub fn layouts<C: FrameCall>(chance: &mut Chance, counts: &mut Counts) {
 }
 
 /// Every set of questions answered no at once, so that their order shows.
-pub fn several_wrongs<C: FrameCall>(chance: &mut Chance, counts: &mut Counts) {
+fn several_wrongs<C: FrameCall>(chance: &mut Chance, counts: &mut Counts) {
     for questions in sets(C::QUESTIONS) {
         let number = questions.first().copied().unwrap_or(0);
         for _ in 0..20 {
@@ -131,4 +131,15 @@ pub fn several_wrongs<C: FrameCall>(chance: &mut Chance, counts: &mut Counts) {
             answered(&call, number, &format!("{questions:?} answered no"), counts);
         }
     }
+}
+
+/// The refusals that every such call has, and between them its own; each number has to be answered often enough.
+pub fn refusals<C: FrameCall>(own: impl FnOnce(&mut Chance, &mut Counts)) {
+    let chance = &mut Chance(0xda94_2042_e4dd_58b5);
+    let mut counts = Counts::default();
+    sizes::<C>(chance, &mut counts);
+    layouts::<C>(chance, &mut counts);
+    own(chance, &mut counts);
+    several_wrongs::<C>(chance, &mut counts);
+    counts.assert_complete(C::NAME, C::QUESTIONS);
 }

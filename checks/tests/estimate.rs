@@ -6,8 +6,8 @@ use checks::chance::Chance;
 use checks::estimate::estimate;
 use checks::mosaics::{kinds, longer_lengths, spike};
 use checks::refusals::{
-    answered, layouts, several_wrongs, sizes, wrong_lengths, Counts, FrameCall, LARGEST, NO_LENGTH,
-    NO_SAMPLE, SHAPES, TRIES, TRIES_IN_THE_LARGEST,
+    answered, refusals, wrong_lengths, Counts, FrameCall, LARGEST, NO_LENGTH, NO_SAMPLE, SHAPES, TRIES,
+    TRIES_IN_THE_LARGEST,
 };
 
 #[path = "../src/library.rs"]
@@ -284,14 +284,10 @@ impl FrameCall for Ask {
 }
 
 #[test]
-fn refusals() {
-    let chance = &mut Chance(0xda94_2042_e4dd_58b5);
-    let mut counts = Counts::default();
-    sizes::<Ask>(chance, &mut counts);
-    layouts::<Ask>(chance, &mut counts);
-    lengths(chance, &mut counts);
-    samples(chance, &mut counts);
-    samples_in_large_frames(&mut counts);
-    several_wrongs::<Ask>(chance, &mut counts);
-    counts.assert_complete(Ask::NAME, Ask::QUESTIONS);
+fn refused() {
+    refusals::<Ask>(|chance, counts| {
+        lengths(chance, counts);
+        samples(chance, counts);
+        samples_in_large_frames(counts);
+    });
 }

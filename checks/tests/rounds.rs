@@ -4,13 +4,13 @@
 use checks::buffers::Buffer;
 use checks::chance::Chance;
 use checks::estimate::estimates_of;
-use checks::low_band::weights;
+use checks::low_band::{at_every_place, weights};
 use checks::mosaic::{Colour, Mosaic};
 use checks::mosaics::{kinds, longer_lengths, spike, Kind, OF_TWO};
 use checks::packet::Fields;
 use checks::refusals::{
-    answered, layouts, several_wrongs, short_work, sizes, sufficient_work, wrong_lengths, Counts, FrameCall,
-    LARGEST, NO_LENGTH, NO_SAMPLE, SHAPES, TRIES, TRIES_IN_THE_LARGEST,
+    answered, refusals, short_work, sufficient_work, wrong_lengths, Counts, FrameCall, LARGEST, NO_LENGTH,
+    NO_SAMPLE, SHAPES, TRIES, TRIES_IN_THE_LARGEST,
 };
 use checks::rounds::rounds;
 use checks::turns::Frame;
@@ -256,12 +256,7 @@ fn assert_clipped(side: usize, i: usize, j: usize, end: u16) {
 
 #[test]
 fn the_largest_sums() {
-    for side in 2..=9 {
-        for (i, j) in (0..side * side).map(|k| (k / side, k % side)) {
-            assert_clipped(side, i, j, 4095);
-            assert_clipped(side, i, j, 0);
-        }
-    }
+    at_every_place(assert_clipped);
 }
 
 /// As document 01 writes it, after 0 to 3 rounds, and turned: so in every layout.
@@ -449,15 +444,11 @@ impl FrameCall for Ask {
 }
 
 #[test]
-fn refusals() {
-    let chance = &mut Chance(0xda94_2042_e4dd_58b5);
-    let mut counts = Counts::default();
-    sizes::<Ask>(chance, &mut counts);
-    layouts::<Ask>(chance, &mut counts);
-    settings(chance, &mut counts);
-    lengths(chance, &mut counts);
-    samples(chance, &mut counts);
-    large_frames_refused(&mut counts);
-    several_wrongs::<Ask>(chance, &mut counts);
-    counts.assert_complete(Ask::NAME, Ask::QUESTIONS);
+fn refused() {
+    refusals::<Ask>(|chance, counts| {
+        settings(chance, counts);
+        lengths(chance, counts);
+        samples(chance, counts);
+        large_frames_refused(counts);
+    });
 }

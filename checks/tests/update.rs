@@ -4,11 +4,11 @@
 use checks::buffers::Buffer;
 use checks::chance::Chance;
 use checks::estimate::estimates_of;
-use checks::low_band::weights;
+use checks::low_band::{at_every_place, weights};
 use checks::mosaics::{filled, kinds, longer_lengths, spike};
 use checks::refusals::{
-    answered, layouts, several_wrongs, short_work, sizes, sufficient_work, wrong_lengths, Counts, FrameCall,
-    LARGEST, NO_LENGTH, NO_SAMPLE, SHAPES, TRIES, TRIES_IN_THE_LARGEST,
+    answered, refusals, short_work, sufficient_work, wrong_lengths, Counts, FrameCall, LARGEST, NO_LENGTH,
+    NO_SAMPLE, SHAPES, TRIES, TRIES_IN_THE_LARGEST,
 };
 use checks::update::update;
 
@@ -163,12 +163,7 @@ fn assert_clipped(side: usize, i: usize, j: usize, end: u16) {
 
 #[test]
 fn the_largest_sums() {
-    for side in 2..=9 {
-        for (i, j) in (0..side * side).map(|k| (k / side, k % side)) {
-            assert_clipped(side, i, j, 4095);
-            assert_clipped(side, i, j, 0);
-        }
-    }
+    at_every_place(assert_clipped);
 }
 
 /// Case d as the row of blue, with a green of 100 or at an end of the range: bands 2 to 4 join to −4096 4096 −4096, and
@@ -298,14 +293,10 @@ impl FrameCall for Ask {
 }
 
 #[test]
-fn refusals() {
-    let chance = &mut Chance(0xda94_2042_e4dd_58b5);
-    let mut counts = Counts::default();
-    sizes::<Ask>(chance, &mut counts);
-    layouts::<Ask>(chance, &mut counts);
-    lengths(chance, &mut counts);
-    samples(chance, &mut counts);
-    large_frames_refused(&mut counts);
-    several_wrongs::<Ask>(chance, &mut counts);
-    counts.assert_complete(Ask::NAME, Ask::QUESTIONS);
+fn refused() {
+    refusals::<Ask>(|chance, counts| {
+        lengths(chance, counts);
+        samples(chance, counts);
+        large_frames_refused(counts);
+    });
 }

@@ -16,7 +16,7 @@ use Rattle.work_buffer.specs.Places.{Workable}
 use Rattle.work_buffer.specs.Buffer.{with-plane, zeroed}
 use Rattle.work_buffer.proofs.Buffer.{length-with-plane, zeroed-with-plane}
 use Rattle.rounds.specs.Rounds.{rewritten, rounds}
-use Rattle.rounds.specs.Calls.{buffer-questions, rounds-questions, number-of-answer, rewritten-list, rounds-lists, RoundsResult}
+use Rattle.rounds.specs.Calls.{buffer-questions, rounds-questions, number-of-answer, rounds-lists, RoundsResult}
 use Rattle.rounds.specs.declared.RoundsAnswer.the-variants.{Accepted, Refused}
 use Rattle.rounds.proofs.Repeated.{no-round}
 
@@ -57,20 +57,18 @@ pub both-colours : (top w h l n threshold : ℕ) (mosaic green red blue : List �
     → red' ≡ listing w h (rewritten top n threshold w h (red-row l) (red-column l) (plane-of 0 w mosaic) (plane-of 0 w green) (plane-of 0 w red))
     → blue' ≡ listing w h (rewritten top n threshold w h (1 - red-row l) (1 - red-column l) (plane-of 0 w mosaic) (plane-of 0 w green) (plane-of 0 w blue))
     → planes red' green blue' ≡ rounds-lists top (frame w h l mosaic) n threshold (planes red green blue)
-unfolding rounds-lists rewritten-list
+unfolding rounds-lists rounds
 both-colours top w h l n threshold mosaic green red blue p q = λ i. planes (p i) green (q i)
 
--- They are what the operation `rounds` makes of the mosaic and the given planes, row by row.
+-- Green too is what the operation `rounds` makes of the given planes, row by row.
 pub lists-are : (top : ℕ) (f : Frame) (n threshold : ℕ) (given : Planes (List ℕ)) → length (given .green) ≡ f .width * f .height
     → let plane = plane-of {A = ℕ} 0 (f .width) in
     let after = rounds top n threshold (f .width) (f .height) (f .layout) (λ r c. (plane (f .samples) r c, planes (plane (given .red) r c) (plane (given .green) r c) (plane (given .blue) r c))) in
     rounds-lists top f n threshold given
     ≡ planes (listing (f .width) (f .height) (λ r c. after r c .red)) (listing (f .width) (f .height) (λ r c. after r c .green)) (listing (f .width) (f .height) (λ r c. after r c .blue))
-unfolding rounds-lists rewritten-list rounds
+unfolding rounds-lists rounds
 lists-are top f n threshold given long = λ i.
-    planes (rewritten-list top f n threshold (red-row (f .layout)) (red-column (f .layout)) (given .green) (given .red))
-    (sym (listing-plane-of 0 (f .width) (f .height) (given .green) long) i)
-    (rewritten-list top f n threshold (1 - red-row (f .layout)) (1 - red-column (f .layout)) (given .green) (given .blue))
+    planes (rounds-lists top f n threshold given .red) (sym (listing-plane-of 0 (f .width) (f .height) (given .green) long) i) (rounds-lists top f n threshold given .blue)
 
 -- the work buffer zeroed, whatever planes stood in it
 pub all-zero : (w h : ℕ) (p q : ℕ → ℕ → ℤ) (work : List ℤ) → 8 * (w * h) ≤ length work → {first second last : List ℤ}
@@ -82,7 +80,7 @@ all-zero w h p q work room {first} e f g =
 -- with no round no plane changes
 pub no-rounds : (top : ℕ) (f : Frame) (threshold : ℕ) (given : Planes (List ℕ)) → length (given .red) ≡ f .width * f .height → length (given .blue) ≡ f .width * f .height
     → rounds-lists top f 0 threshold given ≡ given
-unfolding rounds-lists rewritten-list
+unfolding rounds-lists rounds
 no-rounds top f threshold given p q = λ i. planes (same (red-row (f .layout)) (red-column (f .layout)) (given .red) p i) (given .green) (same (1 - red-row (f .layout)) (1 - red-column (f .layout)) (given .blue) q i)
   where
     same : (a b : ℕ) (plane : List ℕ) → length plane ≡ f .width * f .height

@@ -1,16 +1,15 @@
 -- The rounds call: what it asks, and what its answer, its planes and its work buffer are then. Assumes nothing.
 use mathlib.Core.Path.{_≡_}
 use mathlib.Core.List.{List, [], _∷_, _++_}
-use Prim.Native.Nat.{ℕ, _*_, _-_}
+use Prim.Native.Nat.{ℕ, _*_}
 use lib.Dec.{eqb, leb}
 use lib.IntN.{ℤ}
 use lib.ListN.{length}
 use Rattle.questions.specs.Questions.{Question, question, ceiling, all-at-most, frame-questions, samples-question}
 use Rattle.questions.specs.Answers.{Answered, if-accepted}
-use Rattle.turns.specs.Layout.{red-row, red-column}
 use Rattle.turns.specs.Frames.{Frame, Planes, planes, listing, plane-of}
 use Rattle.work_buffer.specs.Buffer.{zeroed}
-use Rattle.rounds.specs.Rounds.{rewritten}
+use Rattle.rounds.specs.Rounds.{rounds}
 use Rattle.rounds.specs.declared.RoundsAnswer.{RoundsAnswer}
 use Rattle.rounds.specs.declared.RoundsAnswer.the-variants as rounds-answer
 
@@ -36,17 +35,17 @@ number-of-answer rounds-answer.Accepted = 0
 number-of-answer (rounds-answer.Refused number) = number
 
 -- ---- what is promised
--- the plane of the colour with these parities after the rounds, row by row
-unfoldable pub rewritten-list : ℕ → Frame → ℕ → ℕ → ℕ → ℕ → List ℕ → List ℕ → List ℕ
-rewritten-list top f n threshold a b green plane =
-    listing (f .width) (f .height) (rewritten top n threshold (f .width) (f .height) a b (plane-of 0 (f .width) (f .samples)) (plane-of 0 (f .width) green) (plane-of 0 (f .width) plane))
-
--- red and blue rewritten; green stays
+-- red and blue after the rounds, row by row; green is as it was given
 unfoldable pub rounds-lists : ℕ → Frame → ℕ → ℕ → Planes (List ℕ) → Planes (List ℕ)
-rounds-lists top f n threshold given =
-    planes (rewritten-list top f n threshold (red-row (f .layout)) (red-column (f .layout)) (given .green) (given .red))
-    (given .green)
-    (rewritten-list top f n threshold (1 - red-row (f .layout)) (1 - red-column (f .layout)) (given .green) (given .blue))
+rounds-lists top f n threshold given = planes (listing (f .width) (f .height) (λ r c. after r c .red)) (given .green) (listing (f .width) (f .height) (λ r c. after r c .blue))
+  where
+    plane : List ℕ → ℕ → ℕ → ℕ
+    plane = plane-of 0 (f .width)
+
+    after : ℕ → ℕ → Planes ℕ
+    after =
+        rounds top n threshold (f .width) (f .height) (f .layout)
+        (λ r c. (plane (f .samples) r c, planes (plane (given .red) r c) (plane (given .green) r c) (plane (given .blue) r c)))
 
 -- The rounds call, given frame f, so many rounds, a threshold, three planes that held `given` and a work buffer that held `work`: its
 -- answer r, and what the planes and the buffer hold after.

@@ -1,13 +1,12 @@
 -- Document 01, "Rounds". Assumes nothing.
-use mathlib.Core.Bool.{cond, _&&_}
-use Prim.Native.Nat.{ℕ, zero, suc, _*_, _-_, _%_}
-use lib.Dec.{eqb}
+use Prim.Native.Nat.{ℕ, zero, suc, _*_, _-_}
 use lib.IntN.{ℤ, pos, natAbs}
 use Rattle.turns.specs.Layout.{red-row, red-column}
 use Rattle.turns.specs.Frames.{Planes, planes}
 use Rattle.turns.specs.Operations.{Operation}
 use Rattle.filters.specs.Bank.{rescaled}
 use Rattle.projection.specs.Projection.{held-sum}
+use Rattle.work_buffer.specs.Places.{put-at-places}
 
 -- ---- a round of one colour's working plane, with green fixed
 -- how far a value of bands 2, 3 and 4 may be from green's: 16·T
@@ -20,7 +19,7 @@ kept top s = rescaled (pos 0) (pos top) s
 
 -- the observed samples put in: those of the colour whose rows have parity a and whose columns have parity b
 unfoldable pub put-observed : ℕ → ℕ → (ℕ → ℕ → ℕ) → (ℕ → ℕ → ℤ) → ℕ → ℕ → ℤ
-put-observed a b mosaic plane r c = cond (eqb (r % 2) a && eqb (c % 2) b) (pos (mosaic r c)) (plane r c)
+put-observed a b mosaic plane = put-at-places a b (λ r c. pos (mosaic r c)) plane
 
 -- split; in bands 2, 3, 4 hold the value within green's ± 16·T; join and bring back; then put the observed samples in
 unfoldable pub round : ℕ → ℕ → ℕ → ℕ → ℕ → ℕ → (ℕ → ℕ → ℕ) → (ℕ → ℕ → ℕ) → (ℕ → ℕ → ℤ) → ℕ → ℕ → ℤ

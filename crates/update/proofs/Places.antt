@@ -4,7 +4,7 @@ use mathlib.Core.Path.{_≡_, refl, sym, _∙_, ap, subst}
 use mathlib.Core.Bool.{Bool, true, false, cond, _&&_}
 use mathlib.Core.List.{List}
 use Prim.Native.Nat.{ℕ, _+_, _*_, _/_, _%_, _≤_, _<_}
-use native.Mathlib.Nat.{mul-le-mul-left, div-add-mod'}
+use native.Mathlib.Nat.{div-add-mod'}
 use native.Mathlib.Omega.{arith}
 use lib.Arith.{digits-div, digits-mod}
 use lib.Dec.{T, eqb, eqb→eq}
@@ -26,7 +26,7 @@ use Rattle.projection.proofs.Projection.{projected-agrees}
 use Rattle.work_buffer.specs.Places.{places, place, sample, put, Narrow, Workable}
 use Rattle.work_buffer.specs.Buffer.{with-plane}
 use Rattle.work_buffer.proofs.Buffer.{with-plane-at, clipped-sample, narrow-plane}
-use Rattle.work_buffer.proofs.Places.{length-put, place-inside, small-inside, row-place, small-place, small-in-list, put-colour}
+use Rattle.work_buffer.proofs.Places.{length-put, place-inside, small-inside, row-place, small-place, nearer-in-list, put-colour}
 use Rattle.update.specs.Update.{small-plane, mixed, put-mixed}
 use Rattle.update.specs.Places.{small-mixed, with-mixed}
 use Rattle.update.proofs.Mixing.{mixed-projected, own-mixed, put-mixed-own}
@@ -65,10 +65,6 @@ module _ (w h a b : ℕ) (ha : a < 2) (hb : b < 2) where
   abbrev at-place : ℕ → ℕ
   at-place = place (a * w + b) (2 * w) columns
 
-  -- a plane that stands no farther on than the colour's places is in the list too
-  nearer-in-list : (from down across i j : ℕ) → from ≤ a * w + b → down ≤ 2 * w → across ≤ 2 → i < rows → j < columns → from + i * down + j * across < w * h
-  nearer-in-list from down across i j p q r hi hj = omega (arith, small-in-list w h a b ha hb i j hi hj, mul-le-mul-left i q, mul-le-mul-left j r)
-
   -- ---- the work buffer
   module _ (mosaic green : List ℕ) (work : List ℤ) (room : columns * rows ≤ length work) where
     module _ {gathered : List ℤ} (e : gathered ≡ overwrite work 0 (columns * rows) (λ k. sample green (at-place k))) where
@@ -92,7 +88,7 @@ module _ (w h a b : ℕ) (ha : a < 2) (hb : b < 2) where
         height-to = omega (arith, u .height-to);
         inside = omega (arith, room, ap length e, length-overwrite work 0 (columns * rows) (λ k. sample green (at-place k)) (omega arith));
         small = λ k hk. omega (arith, bound k hk);
-        guide-inside = λ i j hi hj. omega (arith, nearer-in-list from down across i j p q r hi hj, u .samples);
+        guide-inside = λ i j hi hj. omega (arith, nearer-in-list w h a b ha hb from down across i j p q r hi hj, u .samples);
         near = λ i j hi hj. omega (arith, abs-sub (value gathered (0 + (i * columns + j))) (pos (getD mosaic (from + i * down + j * across) 0)), bound (i * columns + j) (cell-inside hi hj), sm (from + i * down + j * across));
       }
         where

@@ -1,12 +1,10 @@
 -- Document 01, "Green update". Assumes nothing.
-use mathlib.Core.Bool.{cond, _&&_}
-use Prim.Native.Nat.{ℕ, _+_, _*_, _-_, _/_, _%_}
-use lib.Dec.{eqb}
+use Prim.Native.Nat.{ℕ, _+_, _*_, _-_, _/_}
 use lib.IntN.{ℤ, pos}
 use Rattle.turns.specs.Layout.{red-row, red-column}
 use Rattle.turns.specs.Operations.{Operation}
 use Rattle.filters.specs.Bank.{Bands, split, join, brought-back}
-use Rattle.work_buffer.specs.Places.{places}
+use Rattle.work_buffer.specs.Places.{places, put-at-places}
 
 -- ---- a colour's places: every second row from a on, every second column from b on
 -- the small plane that they form
@@ -23,10 +21,8 @@ mixed top w h green colour r c = brought-back top (join 1 w h (λ i j. mix (spli
 
 -- ---- put into a plane at those places: from the observed colour in the mosaic, and the first green estimate
 unfoldable pub put-mixed : ℕ → ℕ → ℕ → ℕ → ℕ → (ℕ → ℕ → ℕ) → (ℕ → ℕ → ℕ) → (ℕ → ℕ → ℕ) → ℕ → ℕ → ℕ
-put-mixed top w h a b mosaic green plane r c =
-    cond (eqb (r % 2) a && eqb (c % 2) b)
-    (mixed top (places w b) (places h a) (small-plane a b (λ i j. pos (green i j))) (small-plane a b (λ i j. pos (mosaic i j))) (r / 2) (c / 2))
-    (plane r c)
+put-mixed top w h a b mosaic green plane =
+    put-at-places a b (λ r c. mixed top (places w b) (places h a) (small-plane a b (λ i j. pos (green i j))) (small-plane a b (λ i j. pos (mosaic i j))) (r / 2) (c / 2)) plane
 
 -- Blue places, and then red places; both read the first green estimate. A place has its mosaic sample, and its green.
 unfoldable pub update : ℕ → Operation (ℕ × ℕ) ℕ

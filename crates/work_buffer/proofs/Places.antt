@@ -4,7 +4,7 @@ use mathlib.Core.Bool.{Bool, true, false, cond, not, _&&_}
 use mathlib.Core.List.{List}
 use Prim.Native.Nat.{ℕ, zero, suc, _+_, _*_, _-_, _/_, _%_, _≤_, _<_}
 use native.Mathlib.Decide.{ℕ-discrete}
-use native.Mathlib.Nat.{add-zero, add-mul, mul-assoc, mul-left-comm, suc-mul, zero-mul, mul-le-mul, div-add-mod'}
+use native.Mathlib.Nat.{add-zero, add-mul, mul-assoc, mul-left-comm, suc-mul, zero-mul, mul-le-mul, mul-le-mul-left, div-add-mod'}
 use native.Mathlib.Numerals.{add-one}
 use native.Mathlib.Omega.{arith}
 use lib.Arith.{digits-div, digits-mod}
@@ -135,12 +135,16 @@ module _ (w h a b : ℕ) (ha : a < 2) (hb : b < 2) where
   at-place = place (a * w + b) (2 * w) columns
 
   -- all of them inside
-  pub small-in-list : (i j : ℕ) → i < rows → j < columns → a * w + b + i * (2 * w) + 2 * j < w * h
+  small-in-list : (i j : ℕ) → i < rows → j < columns → a * w + b + i * (2 * w) + 2 * j < w * h
   small-in-list i j hi hj = subst (λ (n : ℕ). n < w * h) (sym (small-place w a b i j)) (cell-inside (place-inside h a i ha hi) (place-inside w b j hb hj))
 
+  -- and so are as many places that stand no farther on
+  pub nearer-in-list : (from down across i j : ℕ) → from ≤ a * w + b → down ≤ 2 * w → across ≤ 2 → i < rows → j < columns → from + i * down + j * across < w * h
+  nearer-in-list from down across i j p q r hi hj = omega (arith, small-in-list i j hi hj, mul-le-mul-left i q, mul-le-mul-left j r)
+
   -- so that their rows may be read and put
-  pub small-rows : (s : List ℕ) → length s ≡ w * h → 2 ≤ w → SecondRows s (a * w + b) (2 * w) columns rows
-  small-rows s e hw = record { some = some-places w b hw hb; inside = λ i j hi hj. omega (arith, small-in-list i j hi hj, e) }
+  pub small-rows : (s : List ℕ) → length s ≡ w * h → 2 ≤ w → (from down : ℕ) → from ≤ a * w + b → down ≤ 2 * w → SecondRows s from down columns rows
+  small-rows s e hw from down p q = record { some = some-places w b hw hb; inside = λ i j hi hj. omega (arith, nearer-in-list from down 2 i j p q (omega arith) hi hj, e) }
 
   -- place j of them is row 2 · (j / columns) + a, column 2 · (j % columns) + b
   at-place-is : (j : ℕ) → at-place j ≡ (2 * (j / columns) + a) * w + (2 * (j % columns) + b)

@@ -40,7 +40,7 @@ store-requires c κs =
     let l = r .before .before .before in
     let s = l .before .before .before .before .before .before in
     let a = s .args in
-    last-narrow ceiling (a .rounds) (a .threshold) (a .width) (a .height) (a .a) (a .b) (now (a .mosaic)) (now (a .green)) (now (a .plane)) (now (a .work)) (room s) (s .pre .3) (l .load .ensures) (r .run .ensures) (omega arith) (plane-small l) (mosaic-small l)
+    last-narrow ceiling _ (a .threshold) (a .width) (a .height) (a .a) (a .b) (now (a .mosaic)) (now (a .green)) (now (a .plane)) (now (a .work)) (room s) (s .pre .3) (l .load .ensures) (r .run .ensures) (omega arith) (plane-small l) (mosaic-small l)
 
 same-length : tie.Need-same-length
 same-length c = search needs

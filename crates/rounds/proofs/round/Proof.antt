@@ -69,7 +69,7 @@ observe-requires c κs =
     let s = c .before .before .before .before .before .before .before in
     let a = s .args in
     let u = s .pre .0 in
-    (small-rows (a .width) (a .height) (a .a) (a .b) (s .pre .1) (s .pre .2) (now (a .mosaic)) (u .samples) (u .width-from), omega (arith, u .samples, u .work, c .before .before .project .kept))
+    (small-rows (a .width) (a .height) (a .a) (a .b) (s .pre .1) (s .pre .2) (now (a .mosaic)) (u .samples) (u .width-from) _ _ (omega arith) (omega arith), omega (arith, u .samples, u .work, c .before .before .project .kept))
 
 same-length : tie.Need-same-length
 same-length c = search needs

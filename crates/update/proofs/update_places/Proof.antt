@@ -52,7 +52,7 @@ gather-requires c κs =
     let s = c .before .before .before .before in
     let a = s .args in
     let u = s .pre .0 in
-    (small-rows (a .width) (a .height) (a .a) (a .b) (s .pre .1) (s .pre .2) (now (a .green)) (u .greens) (u .width-from), room s)
+    (small-rows (a .width) (a .height) (a .a) (a .b) (s .pre .1) (s .pre .2) (now (a .green)) (u .greens) (u .width-from) _ _ (omega arith) (omega arith), room s)
 
 project-requires : tie.Need-project-requires
 unfolding places
@@ -74,7 +74,7 @@ scatter-requires c κs =
     let a = s .args in
     let u = s .pre .0 in (
       projected-narrow _ _ _ _ _ _ _ (omega arith) (omega (arith, room s, g .gather .kept)) (p .project .ensures),
-      small-rows (a .width) (a .height) (a .a) (a .b) (s .pre .1) (s .pre .2) (now (a .green)) (u .greens) (u .width-from),
+      small-rows (a .width) (a .height) (a .a) (a .b) (s .pre .1) (s .pre .2) (now (a .green)) (u .greens) (u .width-from) _ _ (omega arith) (omega arith),
     )
 
 same-length : tie.Need-same-length
