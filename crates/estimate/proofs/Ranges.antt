@@ -1,25 +1,21 @@
 -- Every estimate is at most `top` where the samples are. Assumes nothing.
-use mathlib.Core.Path.{_≡_, sym, subst}
+use mathlib.Core.Path.{_≡_}
 use mathlib.Core.Bool.{Bool, true, false, not}
-use Prim.Native.Nat.{ℕ, _+_, _*_, _/_, _%_, _≤_, _<_}
+use Prim.Native.Nat.{ℕ, _+_, _*_, _≤_, _<_}
 use native.Mathlib.Omega.{arith}
 use lib.Dec.{lit<}
 use lib.IntN.{ℤ, pos, negsuc, _+ℤ_}
-use lib.ListN.{length, getD}
+use lib.ListN.{length}
 use Rattle.integers.specs.Numbers.{rounded}
-use Rattle.integers.specs.Lists.{tabulate}
-use Rattle.integers.proofs.Tests.{is-true, true-is}
-use Rattle.integers.proofs.Lists.{length-tabulate, getD-tabulate}
 use Rattle.integers.proofs.Clamping.{clamp-sample}
 use Rattle.integers.proofs.Rounding.{rounded-bound}
 use Rattle.border.specs.Border.{reflect}
 use Rattle.border.proofs.Reflection.{reflect-lt}
 use Rattle.questions.specs.Questions.{all-at-most}
-use Rattle.questions.proofs.Asking.{all-at-most-at, all-at-most-by}
 use Rattle.turns.specs.Layout.{Colour, red, green, blue, by-parity, on-red-row, on-red-column}
 use Rattle.turns.specs.Operations.{Around, nearby}
-use Rattle.turns.specs.Frames.{Frame, Planes, listing, plane-of}
-use Rattle.turns.proofs.Frames.{row-inside, column-inside, place-inside}
+use Rattle.turns.specs.Frames.{Frame, Planes, plane-of}
+use Rattle.turns.proofs.Frames.{plane-bound, listing-bound}
 use Rattle.estimate.specs.Estimates.{row-of, column-of, eight-greens, hamilton-adams, green-at, of-two, of-four, bilinear, estimate-at, estimate}
 use Rattle.estimate.specs.Calls.{estimate-lists}
 
@@ -72,18 +68,6 @@ estimate-bound top w h l p small r c hr hc = record {
     there i j = small (reflect h (pos r +ℤ i)) (reflect w (pos c +ℤ j)) (reflect-lt h (omega arith) (pos r +ℤ i)) (reflect-lt w (omega arith) (pos c +ℤ j))
 
 -- ---- the planes as lists: they answer question 10 yes where the mosaic answers 9 yes
-listing-bound : (top w h : ℕ) (p : ℕ → ℕ → ℕ) → ((r c : ℕ) → r < h → c < w → p r c ≤ top) → all-at-most top (listing w h p) ≡ true
-unfolding listing
-listing-bound top w h p small = is-true (all-at-most top (tabulate (w * h) q)) (all-at-most-by top (tabulate (w * h) q) at)
-  where
-    q : ℕ → ℕ
-    q k = p (k / w) (k % w)
-
-    at : (k : ℕ) → k < length (tabulate (w * h) q) → getD (tabulate (w * h) q) k 0 ≤ top
-    at k b =
-        let i : k < w * h = omega (arith, length-tabulate (w * h) q, b) in
-        subst (λ (x : ℕ). x ≤ top) (sym (getD-tabulate (w * h) q k 0 i)) (small (k / w) (k % w) (row-inside w h k i) (column-inside w h k i))
-
 pub lists-bound : (top : ℕ) (f : Frame) → length (f .samples) ≡ f .width * f .height → all-at-most top (f .samples) ≡ true
     → let e = estimate-lists top f in (all-at-most top (e .red) ≡ true) × (all-at-most top (e .green) ≡ true) × (all-at-most top (e .blue) ≡ true)
 unfolding estimate-lists
@@ -93,8 +77,5 @@ lists-bound top f count small = (
   listing-bound top (f .width) (f .height) _ (λ r c hr hc. bound r c hr hc .blue),
 )
   where
-    sample : (r c : ℕ) → r < f .height → c < f .width → plane-of 0 (f .width) (f .samples) r c ≤ top
-    sample r c hr hc = unfold plane-of in all-at-most-at top (f .samples) (true-is small) (r * f .width + c) (omega (arith, place-inside hr hc, count))
-
     bound : (r c : ℕ) → r < f .height → c < f .width → Within top (estimate top (f .width) (f .height) (f .layout) (plane-of 0 (f .width) (f .samples)) r c)
-    bound = estimate-bound top (f .width) (f .height) (f .layout) (plane-of 0 (f .width) (f .samples)) sample
+    bound = estimate-bound top (f .width) (f .height) (f .layout) (plane-of 0 (f .width) (f .samples)) (plane-bound top (f .width) (f .height) (f .samples) count small)

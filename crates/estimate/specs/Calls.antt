@@ -6,7 +6,7 @@ use lib.Dec.{eqb}
 use lib.ListN.{length}
 use Rattle.questions.specs.Questions.{Question, question, ceiling, shape-questions, samples-question}
 use Rattle.questions.specs.Answers.{Answered, if-accepted}
-use Rattle.turns.specs.Frames.{Frame, Planes, planes, lengths, listing, plane-of}
+use Rattle.turns.specs.Frames.{Frame, Planes, lengths, listings, plane-of}
 use Rattle.estimate.specs.Estimates.{estimate}
 use Rattle.estimate.specs.declared.EstimateAnswer.{EstimateAnswer}
 use Rattle.estimate.specs.declared.EstimateAnswer.the-variants as estimate-answer
@@ -27,10 +27,7 @@ number-of-answer (estimate-answer.Refused number) = number
 -- ---- what is promised
 -- the three planes of a frame, row by row
 unfoldable pub estimate-lists : ℕ → Frame → Planes (List ℕ)
-estimate-lists top f =
-    planes (listing (f .width) (f .height) (λ r c. estimate top (f .width) (f .height) (f .layout) (plane-of 0 (f .width) (f .samples)) r c .red))
-    (listing (f .width) (f .height) (λ r c. estimate top (f .width) (f .height) (f .layout) (plane-of 0 (f .width) (f .samples)) r c .green))
-    (listing (f .width) (f .height) (λ r c. estimate top (f .width) (f .height) (f .layout) (plane-of 0 (f .width) (f .samples)) r c .blue))
+estimate-lists top f = listings (f .width) (f .height) (estimate top (f .width) (f .height) (f .layout) (plane-of 0 (f .width) (f .samples)))
 
 -- The estimate call, given frame f and three planes that held `before`: its answer r, and what the planes hold `after`.
 pub record EstimateResult (f : Frame) (before : Planes (List ℕ)) (r : EstimateAnswer) (after : Planes (List ℕ)) : Type 0 where

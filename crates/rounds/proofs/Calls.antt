@@ -10,7 +10,7 @@ use Rattle.questions.specs.Questions.{ceiling, ask, shape-questions, settings-q
 use Rattle.questions.proofs.Asking.{AllYes, all-yes, all-yes-split, shape-is}
 use Rattle.questions.proofs.Answering.{answer-no, answer-yes, left-no, left-yes}
 use Rattle.turns.specs.Layout.{red-row, red-column}
-use Rattle.turns.specs.Frames.{Frame, frame, Planes, planes, listing, plane-of}
+use Rattle.turns.specs.Frames.{Frame, frame, Planes, planes, listing, listings, plane-of}
 use Rattle.turns.proofs.Frames.{listing-plane-of, listing-agree}
 use Rattle.work_buffer.specs.Places.{Workable}
 use Rattle.work_buffer.specs.Buffer.{with-plane, zeroed}
@@ -63,9 +63,8 @@ both-colours top w h l n threshold mosaic green red blue p q = λ i. planes (p i
 -- Green too is what the operation `rounds` makes of the given planes, row by row.
 pub lists-are : (top : ℕ) (f : Frame) (n threshold : ℕ) (given : Planes (List ℕ)) → length (given .green) ≡ f .width * f .height
     → let plane = plane-of {A = ℕ} 0 (f .width) in
-    let after = rounds top n threshold (f .width) (f .height) (f .layout) (λ r c. (plane (f .samples) r c, planes (plane (given .red) r c) (plane (given .green) r c) (plane (given .blue) r c))) in
     rounds-lists top f n threshold given
-    ≡ planes (listing (f .width) (f .height) (λ r c. after r c .red)) (listing (f .width) (f .height) (λ r c. after r c .green)) (listing (f .width) (f .height) (λ r c. after r c .blue))
+    ≡ listings (f .width) (f .height) (rounds top n threshold (f .width) (f .height) (f .layout) (λ r c. (plane (f .samples) r c, planes (plane (given .red) r c) (plane (given .green) r c) (plane (given .blue) r c))))
 unfolding rounds-lists rounds
 lists-are top f n threshold given long = λ i.
     planes (rounds-lists top f n threshold given .red) (sym (listing-plane-of 0 (f .width) (f .height) (given .green) long) i) (rounds-lists top f n threshold given .blue)

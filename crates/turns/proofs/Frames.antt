@@ -9,9 +9,9 @@ use native.Mathlib.Omega.{arith}
 use lib.Arith.{digits-div, digits-mod, digits-lt}
 use lib.Dec.{T}
 use lib.ListN.{length, getD}
-use Rattle.integers.specs.Lists.{overwrite}
+use Rattle.integers.specs.Lists.{tabulate, overwrite}
 use Rattle.integers.proofs.Lists.{length-tabulate, getD-tabulate, tabulate-cong, tabulate-getD, overwrite-none, overwrite-append, overwrite-all}
-use Rattle.integers.proofs.Tests.{same-test}
+use Rattle.integers.proofs.Tests.{same-test, is-true, true-is}
 use Rattle.questions.specs.Questions.{all-at-most}
 use Rattle.questions.proofs.Asking.{all-at-most-at, all-at-most-by}
 use Rattle.turns.specs.Pictures.{Picture, exchanged, left-right, top-bottom, steps-of, if-so, turned-by, turned, followed-by, number-of-steps, then-another, _≈_}
@@ -216,3 +216,20 @@ all-at-most-turned top t f e =
     -- every value of s is one of r, and all of r are at most top
     carried : (r s : List ℕ) → ((v : ℕ) → Among s v → Among r v) → T (all-at-most top r) → T (all-at-most top s)
     carried r s f b = all-at-most-by top s (λ k h. let a = f (getD s k 0) (record { place = k; inside = h; holds = refl }) in subst (λ (v : ℕ). v ≤ top) (a .holds) (all-at-most-at top r b (a .place) (a .inside)))
+
+-- ---- a plane's samples at most top, and its list's
+pub plane-bound : (top w h : ℕ) (s : List ℕ) → length s ≡ w * h → all-at-most top s ≡ true → (r c : ℕ) → r < h → c < w → plane-of 0 w s r c ≤ top
+unfolding plane-of
+plane-bound top w h s e small r c hr hc = all-at-most-at top s (true-is small) (r * w + c) (omega (arith, place-inside hr hc, e))
+
+pub listing-bound : (top w h : ℕ) (p : ℕ → ℕ → ℕ) → ((r c : ℕ) → r < h → c < w → p r c ≤ top) → all-at-most top (listing w h p) ≡ true
+unfolding listing
+listing-bound top w h p small = is-true (all-at-most top (tabulate (w * h) q)) (all-at-most-by top (tabulate (w * h) q) at)
+  where
+    q : ℕ → ℕ
+    q k = p (k / w) (k % w)
+
+    at : (k : ℕ) → k < length (tabulate (w * h) q) → getD (tabulate (w * h) q) k 0 ≤ top
+    at k b =
+        let i : k < w * h = omega (arith, length-tabulate (w * h) q, b) in
+        subst (λ (x : ℕ). x ≤ top) (sym (getD-tabulate (w * h) q k 0 i)) (small (k / w) (k % w) (row-inside w h k i) (column-inside w h k i))

@@ -26,6 +26,10 @@ planes r g b = record { red = r; green = g; blue = b }
 abbrev pub lengths : Planes (List ℕ) → Planes ℕ
 lengths p = planes (length (p .red)) (length (p .green)) (length (p .blue))
 
+-- three planes row by row
+abbrev pub listings : {A : Type 0} → ℕ → ℕ → (ℕ → ℕ → Planes A) → Planes (List A)
+listings w h p = planes (listing w h (λ r c. p r c .red)) (listing w h (λ r c. p r c .green)) (listing w h (λ r c. p r c .blue))
+
 -- document 01's width, height, layout and samples; a plane of samples too
 pub record Frame : Type 0 where
   pub width : ℕ

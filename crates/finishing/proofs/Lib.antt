@@ -1,0 +1,4 @@
+pub mod Parts
+pub mod Calls
+pub mod Counting
+pub mod Turned

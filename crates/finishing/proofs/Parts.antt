@@ -1,0 +1,202 @@
+-- Finishing's parts: an accepted finishing call's estimate, update and rounds accept too, and together leave the finished planes. Assumes
+-- nothing.
+use mathlib.Core.Path.{_≡_, refl, sym, _∙_, ap, subst}
+use mathlib.Core.Bool.{true}
+use mathlib.Core.List.{List, [], _∷_}
+use Prim.Native.Nat.{ℕ, _*_, _≤_, _<_}
+use native.Mathlib.Omega.{arith}
+use lib.Dec.{eqb, leb}
+use lib.IntN.{ℤ, pos}
+use lib.ListN.{length}
+use borrow.Author.Tests.{eqb-true, leb-true, eq-eqb, le-leb}
+use Rattle.integers.proofs.Lists.{length-overwrite, overwrite-again}
+use Rattle.questions.specs.Questions.{Question, question, ceiling, ask, all-at-most, shape-questions, settings-questions, frame-questions, samples-question}
+use Rattle.questions.proofs.Asking.{AllYes, all-yes, all-yes-split, all-yes-both, ask-zero}
+use Rattle.questions.proofs.Answering.{left-yes}
+use Rattle.turns.specs.Frames.{Frame, Planes, planes, lengths, listing, listings, plane-of}
+use Rattle.turns.proofs.Commuting.{Agree}
+use Rattle.turns.proofs.Frames.{length-listing, listing-agree, plane-of-listing, plane-bound, listing-bound}
+use Rattle.work_buffer.specs.Buffer.{zeroed}
+use Rattle.estimate.specs.Estimates.{estimate}
+use Rattle.estimate.specs.Calls.{estimate-questions, estimate-lists, EstimateResult}
+use Rattle.estimate.specs.declared.EstimateAnswer.{EstimateAnswer}
+use Rattle.estimate.proofs.Ranges.{lists-bound}
+use Rattle.update.specs.Update.{update}
+use Rattle.update.specs.Calls.{updating-questions, update-questions, update-list, UpdateResult}
+use Rattle.update.specs.declared.UpdateAnswer.{UpdateAnswer}
+use Rattle.update.proofs.Mixing.{update-bound}
+use Rattle.update.proofs.Turned.{update-commutes}
+use Rattle.rounds.specs.Rounds.{rounds}
+use Rattle.rounds.specs.Calls as rounds
+use Rattle.rounds.specs.declared.RoundsAnswer.{RoundsAnswer}
+use Rattle.rounds.proofs.Turned.{rounds-commute}
+use Rattle.rounds.proofs.Calls.{lists-are}
+use Rattle.finishing.specs.Finishing.{updated, finish, finish-lists}
+use Rattle.finishing.specs.Calls.{buffer-questions, finish-questions}
+
+-- ---- the planes on the way
+-- the estimates, green updated, row by row
+unfoldable pub updated-lists : ℕ → Frame → Planes (List ℕ)
+updated-lists top f = planes (estimate-lists top f .red) (update-list top f (estimate-lists top f .green)) (estimate-lists top f .blue)
+
+-- their lengths
+pub estimates-long : (top : ℕ) (f : Frame) → lengths (estimate-lists top f) ≡ planes (f .width * f .height) (f .width * f .height) (f .width * f .height)
+unfolding estimate-lists
+estimates-long top f = λ i. planes (long (λ p. p .red) i) (long (λ p. p .green) i) (long (λ p. p .blue) i)
+  where
+    long : (part : Planes ℕ → ℕ) → length (listing (f .width) (f .height) (λ r c. part (estimate top (f .width) (f .height) (f .layout) (plane-of 0 (f .width) (f .samples)) r c))) ≡ f .width * f .height
+    long part = length-listing (f .width) (f .height) _
+
+pub update-long : (top : ℕ) (f : Frame) (green : List ℕ) → length (update-list top f green) ≡ f .width * f .height
+unfolding update-list
+update-long top f green = length-listing (f .width) (f .height) _
+
+-- the updated green's samples
+update-list-bound : (top : ℕ) (f : Frame) (green : List ℕ) → length green ≡ f .width * f .height → all-at-most top green ≡ true → all-at-most top (update-list top f green) ≡ true
+unfolding update-list
+update-list-bound top f green e small =
+    listing-bound top (f .width) (f .height) _ (update-bound top (f .width) (f .height) (f .layout) _ (plane-bound top (f .width) (f .height) green e small))
+
+-- ---- what an accepted call knows
+module _ (f : Frame) (n threshold : ℕ) (rooms : Planes ℕ) (room : ℕ) (e : 0 ≡ ask (finish-questions f n threshold rooms room)) where
+  abbrev count : ℕ
+  count = f .width * f .height
+
+  -- all questions are answered yes
+  known : AllYes (frame-questions ceiling (f .width) (f .height) (f .layout) n threshold) × AllYes (buffer-questions count (f .samples) rooms room)
+  known =
+      all-yes-split (frame-questions ceiling (f .width) (f .height) (f .layout) n threshold) (buffer-questions count (f .samples) rooms room)
+      (all-yes (finish-questions f n threshold rooms room) tt 0 e refl)
+
+  shape : AllYes (shape-questions (f .width) (f .height) (f .layout))
+  shape = all-yes-split (shape-questions (f .width) (f .height) (f .layout)) (settings-questions ceiling n threshold) (known .0) .0
+
+  long : length (f .samples) ≡ count
+  long = let y = known .1 in eqb-true (length (f .samples)) count (search y)
+
+  small : all-at-most ceiling (f .samples) ≡ true
+  small = let y = known .1 in search y
+
+  pub work-room : 8 * count ≤ room
+  work-room = let y = known .1 in leb-true (8 * count) room (search y)
+
+  -- so they are of each part
+  pub estimate-accepts : 0 ≡ ask (estimate-questions f rooms)
+  estimate-accepts =
+      let y = known .1 in
+      sym (ask-zero (estimate-questions f rooms) (shape .0, (shape .1 .0, (shape .1 .1 .0, (search y, (search y, (search y, (search y, (search y, tt)))))))))
+
+  abbrev first : Planes (List ℕ)
+  first = estimate-lists ceiling f
+
+  green-long : length (first .green) ≡ count
+  green-long = ap (λ p. p .green) (estimates-long ceiling f)
+
+  pub update-accepts : 0 ≡ ask (update-questions f (first .green) room)
+  update-accepts =
+      sym (ask-zero (update-questions f (first .green) room)
+      (all-yes-both (shape-questions (f .width) (f .height) (f .layout)) (updating-questions count (f .samples) (first .green) room) shape
+      (eq-eqb (length (f .samples)) count long, (eq-eqb (length (first .green)) count green-long, (le-leb (8 * count) room work-room, (small, (lists-bound ceiling f long small .1, tt)))))))
+
+  pub rounds-accepts : 0 ≡ ask (rounds.rounds-questions f n threshold (updated-lists ceiling f) room)
+  unfolding updated-lists
+  rounds-accepts =
+      sym (ask-zero (rounds.rounds-questions f n threshold (updated-lists ceiling f) room)
+      (all-yes-both (frame-questions ceiling (f .width) (f .height) (f .layout) n threshold) (rounds.buffer-questions count (f .samples) (updated-lists ceiling f) room) (known .0)
+      (eq-eqb (length (f .samples)) count long,
+      (eq-eqb (length (first .red)) count (ap (λ p. p .red) (estimates-long ceiling f)),
+      (eq-eqb _ count (update-long ceiling f (first .green)),
+      (eq-eqb (length (first .blue)) count (ap (λ p. p .blue) (estimates-long ceiling f)),
+      (le-leb (8 * count) room work-room, (small,
+      (lists-bound ceiling f long small .0, (update-list-bound ceiling f (first .green) green-long (lists-bound ceiling f long small .1), (lists-bound ceiling f long small .2, tt)))))))))))
+
+-- ---- what the parts leave together
+pub finished-by-parts : (top : ℕ) (f : Frame) (n threshold : ℕ) → rounds.rounds-lists top f n threshold (updated-lists top f) ≡ finish-lists top n threshold f
+unfolding updated-lists finish-lists finish
+finished-by-parts top f n threshold =
+    lists-are top f n threshold (updated-lists top f) (update-long top f (estimate-lists top f .green))
+    ∙ (λ i. planes (colour (λ p. p .red) i) (colour (λ p. p .green) i) (colour (λ p. p .blue) i))
+  where
+    w : ℕ
+    w = f .width
+
+    h : ℕ
+    h = f .height
+
+    mosaic : ℕ → ℕ → ℕ
+    mosaic = plane-of 0 w (f .samples)
+
+    read : Planes (List ℕ) → ℕ → ℕ → Planes ℕ
+    read p r c = planes (plane-of 0 w (p .red) r c) (plane-of 0 w (p .green) r c) (plane-of 0 w (p .blue) r c)
+
+    -- the lists hold the estimates
+    estimated : Agree w h (read (estimate-lists top f)) (estimate top w h (f .layout) mosaic)
+    estimated r c hr hc = unfold estimate-lists in (λ i. planes (held (λ p. p .red) i) (held (λ p. p .green) i) (held (λ p. p .blue) i))
+      where
+        held : (part : Planes ℕ → ℕ) → plane-of 0 w (listing w h (λ i j. part (estimate top w h (f .layout) mosaic i j))) r c ≡ part (estimate top w h (f .layout) mosaic r c)
+        held part = plane-of-listing 0 w h (λ i j. part (estimate top w h (f .layout) mosaic i j)) r c hr hc
+
+    -- and the updated ones the updated green
+    green : Agree w h (plane-of 0 w (update-list top f (estimate-lists top f .green))) (update top w h (f .layout) (λ i j. (mosaic i j, estimate top w h (f .layout) mosaic i j .green)))
+    green r c hr hc = held
+        ∙ update-commutes top .agrees w h (f .layout) _ _ (λ i j hi hj. λ k. (mosaic i j, estimated i j hi hj k .green)) r c hr hc
+      where
+        held : plane-of 0 w (update-list top f (estimate-lists top f .green)) r c ≡ update top w h (f .layout) (λ i j. (mosaic i j, plane-of 0 w (estimate-lists top f .green) i j)) r c
+        held = unfold update-list in plane-of-listing 0 w h (update top w h (f .layout) (λ i j. (mosaic i j, plane-of 0 w (estimate-lists top f .green) i j))) r c hr hc
+
+    all : Agree w h (read (updated-lists top f)) (updated top w h (f .layout) mosaic)
+    all r c hr hc = unfold updated in (λ i. planes (estimated r c hr hc i .red) (green r c hr hc i) (estimated r c hr hc i .blue))
+
+    colour : (part : Planes ℕ → ℕ)
+        → listing w h (λ r c. part (rounds top n threshold w h (f .layout) (λ i j. (mosaic i j, read (updated-lists top f) i j)) r c))
+        ≡ listing w h (λ r c. part (rounds top n threshold w h (f .layout) (λ i j. (mosaic i j, updated top w h (f .layout) mosaic i j)) r c))
+    colour part = listing-agree w h (λ r c hr hc. ap part (rounds-commute top n threshold .agrees w h (f .layout) _ _ (λ i j hi hj. λ k. (mosaic i j, all i j hi hj k)) r c hr hc))
+
+-- the work buffer
+pub length-zeroed : (w h : ℕ) (work : List ℤ) → 8 * (w * h) ≤ length work → length (zeroed w h work) ≡ length work
+unfolding zeroed
+length-zeroed w h work room = length-overwrite work 0 (8 * (w * h)) (λ k. pos 0) (omega (arith, room))
+
+pub zeroed-again : (w h : ℕ) (work : List ℤ) → 8 * (w * h) ≤ length work → zeroed w h (zeroed w h work) ≡ zeroed w h work
+unfolding zeroed
+zeroed-again w h work room = overwrite-again (pos 0) work 0 (8 * (w * h)) (8 * (w * h)) _ _ (omega arith) (omega (arith, room))
+
+-- what is left after the three calls, each given what the one before it left
+pub parts-leave : (f : Frame) (n threshold : ℕ) (before : Planes (List ℕ)) (work : List ℤ) → 0 ≡ ask (finish-questions f n threshold (lengths before) (length work))
+    → {a : EstimateAnswer} {b : UpdateAnswer} {c : RoundsAnswer} {first third : Planes (List ℕ)} {green : List ℕ} {work₂ work₃ : List ℤ}
+    → EstimateResult f before a first → UpdateResult f (first .green) work b green work₂ → rounds.RoundsResult f n threshold (planes (first .red) green (first .blue)) work₂ c third work₃
+    → (third ≡ finish-lists ceiling n threshold f) × (work₃ ≡ zeroed (f .width) (f .height) work)
+parts-leave f n threshold before work e {b = b} {c = c} {first} {third} {green} {work₂} {work₃} p q r = (
+  t .three-planes ∙ sym (left-yes (rounds.rounds-questions f n threshold (updated-lists ceiling f) (length (zeroed (f .width) (f .height) work))) _ _ 0 accepts refl) ∙ finished-by-parts ceiling f n threshold,
+  t .work-buffer ∙ sym (left-yes (rounds.rounds-questions f n threshold (updated-lists ceiling f) (length (zeroed (f .width) (f .height) work))) _ _ 0 accepts refl) ∙ zeroed-again (f .width) (f .height) work room,
+)
+  where
+    room : 8 * (f .width * f .height) ≤ length work
+    room = work-room f n threshold (lengths before) (length work) e
+
+    -- the estimate leaves its lists
+    estimated : first ≡ estimate-lists ceiling f
+    estimated = p .buffers ∙ sym (left-yes (estimate-questions f (lengths before)) _ _ 0 (estimate-accepts f n threshold (lengths before) (length work) e) refl)
+
+    -- the update, given them
+    s : UpdateResult f (estimate-lists ceiling f .green) work b green work₂
+    s = subst (λ (x : Planes (List ℕ)). UpdateResult f (x .green) work b green work₂) estimated q
+
+    updating : 0 ≡ ask (update-questions f (estimate-lists ceiling f .green) (length work))
+    updating = update-accepts f n threshold (lengths before) (length work) e
+
+    given : planes (first .red) green (first .blue) ≡ updated-lists ceiling f
+    given = unfold updated-lists in
+        (λ i. planes (estimated i .red) ((s .plane ∙ sym (left-yes (update-questions f (estimate-lists ceiling f .green) (length work)) (update-list ceiling f (estimate-lists ceiling f .green)) (estimate-lists ceiling f .green) 0 updating refl)) i) (estimated i .blue))
+
+    zero : work₂ ≡ zeroed (f .width) (f .height) work
+    zero = s .buffer ∙ sym (left-yes (update-questions f (estimate-lists ceiling f .green) (length work)) _ _ 0 updating refl)
+
+    -- and the rounds, given what it left
+    t : rounds.RoundsResult f n threshold (updated-lists ceiling f) (zeroed (f .width) (f .height) work) c third work₃
+    t = subst (λ (x : List ℤ). rounds.RoundsResult f n threshold (updated-lists ceiling f) x c third work₃) zero
+        (subst (λ (x : Planes (List ℕ)). rounds.RoundsResult f n threshold x work₂ c third work₃) given r)
+
+    accepts : 0 ≡ ask (rounds.rounds-questions f n threshold (updated-lists ceiling f) (length (zeroed (f .width) (f .height) work)))
+    accepts = rounds-accepts f n threshold (lengths before) (length work) e
+        ∙ ap (λ (k : ℕ). ask (rounds.rounds-questions f n threshold (updated-lists ceiling f) k)) (sym (length-zeroed (f .width) (f .height) work room))

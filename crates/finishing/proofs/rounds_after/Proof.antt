@@ -1,0 +1,19 @@
+-- `finishing::rounds_after` meets its contract.
+-- Assumes nothing.
+use mathlib.Core.Path.{_∙_}
+use Rattle.finishing.proofs.Counting.{rounds-yes, rounds-no}
+use borrow.Author.Needs.{needs}
+use Rattle.finishing.proofs.rounds_after.Statement.{statement}
+use Rattle.finishing.proofs.rounds_after.Tie as tie
+
+counted-requires : tie.Need-counted-requires
+counted-requires c κs = search needs
+
+returns : tie.Need-returns
+returns c = c .counted .ensures ∙ rounds-yes _ _ _ (c .before .if1 .taken)
+
+returns-2 : tie.Need-returns-2
+returns-2 c = rounds-no _ _ _ (c .if1 .left)
+
+pub rounds-after-spec : {M : Type 1} → statement M
+rounds-after-spec = tie.close (tie.spec counted-requires returns returns-2)

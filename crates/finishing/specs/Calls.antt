@@ -1,0 +1,68 @@
+-- The finishing call: what it asks, and what its answer, its tally, its planes and its work buffer are then. Assumes nothing.
+use mathlib.Core.Path.{_≡_}
+use mathlib.Core.List.{List, [], _∷_, _++_}
+use Prim.Native.Nat.{ℕ, _*_}
+use lib.Dec.{eqb, leb}
+use lib.IntN.{ℤ}
+use lib.ListN.{length}
+use Rattle.questions.specs.Questions.{Question, question, ceiling, ask, frame-questions, samples-question}
+use Rattle.questions.specs.Answers.{Answered, if-accepted}
+use Rattle.turns.specs.Frames.{Frame, Planes, lengths}
+use Rattle.work_buffer.specs.Buffer.{zeroed}
+use Rattle.finishing.specs.Finishing.{finish-lists}
+use Rattle.finishing.specs.Tally.{next-tally}
+use Rattle.finishing.specs.declared.Tally.{Tally}
+use Rattle.finishing.specs.declared.FinishAnswer.{FinishAnswer}
+use Rattle.finishing.specs.declared.FinishAnswer.the-variants as finish-answer
+
+-- what a finishing call is given: a frame, how many rounds, the threshold, a tally, and what the lent planes and the work buffer hold
+pub record FinishCall : Type 0 where
+  pub frame : Frame
+  pub rounds : ℕ
+  pub threshold : ℕ
+  pub tally : Tally
+  pub before : Planes (List ℕ)
+  pub work : List ℤ
+
+abbrev pub finish-call : Frame → ℕ → ℕ → Tally → Planes (List ℕ) → List ℤ → FinishCall
+finish-call f rounds threshold tally before work = record { frame = f; rounds = rounds; threshold = threshold; tally = tally; before = before; work = work }
+
+-- ---- the questions, in document 01's order
+-- 6 of the mosaic and 7 of the three planes, where a plane has `count` samples, 8 and 9
+abbrev pub buffer-questions : ℕ → List ℕ → Planes ℕ → ℕ → List Question
+buffer-questions count mosaic rooms room =
+    question 6 (eqb (length mosaic) count)
+    ∷ question 7 (eqb (rooms .red) count) ∷ question 7 (eqb (rooms .green) count) ∷ question 7 (eqb (rooms .blue) count)
+    ∷ question 8 (leb (8 * count) room)
+    ∷ samples-question ceiling mosaic
+    ∷ []
+
+-- 1 to 5, and then those, of a frame and of the lengths of planes and work buffer
+abbrev pub finish-questions : Frame → ℕ → ℕ → Planes ℕ → ℕ → List Question
+finish-questions f rounds threshold rooms room =
+    frame-questions ceiling (f .width) (f .height) (f .layout) rounds threshold ++ buffer-questions (f .width * f .height) (f .samples) rooms room
+
+-- those of a call
+abbrev pub questions-of : FinishCall → List Question
+questions-of c = finish-questions (c .frame) (c .rounds) (c .threshold) (lengths (c .before)) (length (c .work))
+
+-- document 01's number of an answer, and its tally
+abbrev pub number-of-answer : FinishAnswer → ℕ
+number-of-answer (finish-answer.Accepted tally) = 0
+number-of-answer (finish-answer.Refused number tally) = number
+
+abbrev pub tally-of-answer : FinishAnswer → Tally
+tally-of-answer (finish-answer.Accepted tally) = tally
+tally-of-answer (finish-answer.Refused number tally) = tally
+
+-- ---- what is promised
+-- the tally that a call hands back
+abbrev pub tally-after : FinishCall → Tally
+tally-after c = next-tally (ask (questions-of c)) (c .rounds) (c .tally)
+
+-- The finishing call c: its answer r, and what the planes and the work buffer hold after.
+pub record FinishResult (c : FinishCall) (r : FinishAnswer) (after : Planes (List ℕ)) (work-after : List ℤ) : Type 0 where
+  pub answer : Answered number-of-answer (questions-of c) (finish-answer.Accepted (tally-after c)) r
+  pub next : tally-of-answer r ≡ tally-after c
+  pub three-planes : after ≡ if-accepted (questions-of c) (finish-lists ceiling (c .rounds) (c .threshold) (c .frame)) (c .before)
+  pub work-buffer : work-after ≡ if-accepted (questions-of c) (zeroed (c .frame .width) (c .frame .height) (c .work)) (c .work)

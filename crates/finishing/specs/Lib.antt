@@ -1,0 +1,5 @@
+pub mod Finishing
+pub mod Tally
+pub mod Calls
+pub mod Histories
+pub mod Turnings
