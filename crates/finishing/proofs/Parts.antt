@@ -102,13 +102,25 @@ module _ (f : Frame) (n threshold : ℕ) (rooms : Planes ℕ) (room : ℕ) (e : 
   unfolding updated-lists
   rounds-accepts =
       sym (ask-zero (rounds.rounds-questions f n threshold (updated-lists ceiling f) room)
-      (all-yes-both (frame-questions ceiling (f .width) (f .height) (f .layout) n threshold) (rounds.buffer-questions count (f .samples) (updated-lists ceiling f) room) (known .0)
-      (eq-eqb (length (f .samples)) count long,
-      (eq-eqb (length (first .red)) count (ap (λ p. p .red) (estimates-long ceiling f)),
-      (eq-eqb _ count (update-long ceiling f (first .green)),
-      (eq-eqb (length (first .blue)) count (ap (λ p. p .blue) (estimates-long ceiling f)),
-      (le-leb (8 * count) room work-room, (small,
-      (lists-bound ceiling f long small .0, (update-list-bound ceiling f (first .green) green-long (lists-bound ceiling f long small .1), (lists-bound ceiling f long small .2, tt)))))))))))
+      (all-yes-both (frame-questions ceiling (f .width) (f .height) (f .layout) n threshold) (rounds.buffer-questions count (f .samples) (updated-lists ceiling f) room) (known .0) (
+        eq-eqb (length (f .samples)) count long,
+        (
+          eq-eqb (length (first .red)) count (ap (λ p. p .red) (estimates-long ceiling f)),
+          (
+            eq-eqb _ count (update-long ceiling f (first .green)),
+            (
+              eq-eqb (length (first .blue)) count (ap (λ p. p .blue) (estimates-long ceiling f)),
+              (
+                le-leb (8 * count) room work-room,
+                (
+                  small,
+                  (lists-bound ceiling f long small .0, (update-list-bound ceiling f (first .green) green-long (lists-bound ceiling f long small .1), (lists-bound ceiling f long small .2, tt))),
+                ),
+              ),
+            ),
+          ),
+        ),
+      )))
 
 -- ---- what the parts leave together
 pub finished-by-parts : (top : ℕ) (f : Frame) (n threshold : ℕ) → rounds.rounds-lists top f n threshold (updated-lists top f) ≡ finish-lists top n threshold f

@@ -14,9 +14,10 @@ use Rattle.integers.proofs.Lists.{length-tabulate, getD-tabulate, tabulate-cong
 use Rattle.integers.proofs.Tests.{same-test, is-true, true-is}
 use Rattle.questions.specs.Questions.{all-at-most}
 use Rattle.questions.proofs.Asking.{all-at-most-at, all-at-most-by}
+use Rattle.turns.specs.Layout.{red-row, red-column, with-parities}
 use Rattle.turns.specs.Pictures.{Picture, exchanged, left-right, top-bottom, steps-of, if-so, turned-by, turned, followed-by, number-of-steps, then-another, _≈_}
 use Rattle.turns.specs.Frames.{listing, plane-of, Frame, frame, picture-of, frame-of, turn-frame}
-use Rattle.turns.proofs.Pictures.{≈-trans, turned-by-≈, turned-then, steps-of-number}
+use Rattle.turns.proofs.Pictures.{row-lt, column-lt, flip-lt, ≈-trans, turned-by-≈, turned-then, steps-of-number}
 use Rattle.turns.proofs.Commuting.{Agree}
 
 -- ---- place k of a plane w by h
@@ -158,11 +159,19 @@ pub record Among (s : List ℕ) (v : ℕ) : Type 0 where
 abbrev pub Every : {A : Type 0} → (A → Type 0) → Picture A → Type 0
 Every P p = (r c : ℕ) → r < p .height → c < p .width → P (p .at r c)
 
+-- what each step keeps, a turn keeps
+turned-keeps : {A : Type 0} (P : Picture A → Type 0) → ((p : Picture A) → P p → P (exchanged p)) → ((p : Picture A) → P p → P (left-right p)) → ((p : Picture A) → P p → P (top-bottom p))
+    → (t : ℕ) (p : Picture A) → P p → P (turned t p)
+unfolding turned turned-by
+turned-keeps {A} P ex lr tb t p b = step (steps-of t .mirror-top-bottom) top-bottom tb _ (step (steps-of t .mirror-left-right) left-right lr _ (step (steps-of t .exchange) exchanged ex p b))
+  where
+    step : (x : Bool) (S : Picture A → Picture A) → ((p : Picture A) → P p → P (S p)) → (p : Picture A) → P p → P (if-so x S p)
+    step true S f p b = f p b
+    step false S f p b = b
+
 -- what holds at every place of a picture holds at every place of it turned
 pub every-turned : {A : Type 0} (P : A → Type 0) (t : ℕ) (p : Picture A) → Every P p → Every P (turned t p)
-unfolding turned turned-by
-every-turned {A} P t p b =
-    step (steps-of t .mirror-top-bottom) top-bottom tb _ (step (steps-of t .mirror-left-right) left-right lr _ (step (steps-of t .exchange) exchanged ex p b))
+every-turned {A} P t p b = turned-keeps (Every P) ex lr tb t p b
   where
     ex : (p : Picture A) → Every P p → Every P (exchanged p)
     ex p b = unfold exchanged in (λ r c hr hc. b c r hc hr)
@@ -173,9 +182,26 @@ every-turned {A} P t p b =
     tb : (p : Picture A) → Every P p → Every P (top-bottom p)
     tb p b = unfold top-bottom in (λ r c hr hc. b (p .height - 1 - r) c (omega arith) hc)
 
-    step : (x : Bool) (S : Picture A → Picture A) → ((p : Picture A) → Every P p → Every P (S p)) → (p : Picture A) → Every P p → Every P (if-so x S p)
-    step true S f p b = f p b
-    step false S f p b = b
+-- a layout of 0 to 3 stays one
+record LayoutTo3 {A : Type 0} (p : Picture A) : Type 0 where
+  holds : p .layout ≤ 3
+
+low-parities : (l r c : ℕ) → l ≤ 3 → r < 2 → c < 2 → with-parities l r c ≤ 3
+unfolding with-parities
+low-parities l r c h hr hc = omega arith
+
+pub layout-turned : (t : ℕ) (f : Frame) → f .layout ≤ 3 → turn-frame t f .layout ≤ 3
+unfolding turn-frame frame-of
+layout-turned t f b = turned-keeps LayoutTo3 ex lr tb t (picture-of f) (unfold picture-of in (record { holds = b })) .holds
+  where
+    ex : (p : Picture ℕ) → LayoutTo3 p → LayoutTo3 (exchanged p)
+    ex p b = unfold exchanged in (record { holds = low-parities (p .layout) _ _ (b .holds) (column-lt (p .layout)) (row-lt (p .layout)) })
+
+    lr : (p : Picture ℕ) → LayoutTo3 p → LayoutTo3 (left-right p)
+    lr p b = unfold left-right in (record { holds = low-parities (p .layout) _ _ (b .holds) (row-lt (p .layout)) (flip-lt (p .width) (red-column (p .layout)) (column-lt (p .layout))) })
+
+    tb : (p : Picture ℕ) → LayoutTo3 p → LayoutTo3 (top-bottom p)
+    tb p b = unfold top-bottom in (record { holds = low-parities (p .layout) _ _ (b .holds) (flip-lt (p .height) (red-row (p .layout)) (row-lt (p .layout))) (column-lt (p .layout)) })
 
 -- a sample of the turned frame is a sample of the frame
 from-turned : (t : ℕ) (f : Frame) → Whole f → (v : ℕ) → Among (turn-frame t f .samples) v → Among (f .samples) v
