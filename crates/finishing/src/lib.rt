@@ -38,11 +38,11 @@ impl FinishAnswer {
 fn counted(before: u32, more: u32) -> u32
     ensures { λ r. ⌜ r ≡ stopped (before + more) ⌝ }
 {
-    if more <= 4294967295 - before {
-        before + more
-    } else {
-        4294967295
+    let left = 4294967295 - before;
+    if left < more {
+        return 4294967295;
     }
+    before + more
 }
 
 // The frames finished after a finishing call that answered this number, 0 for accepted.
@@ -167,7 +167,7 @@ fn fill_planes(
     width: usize,
     height: usize,
     layout: u8,
-    rounds: u8,
+    round_count: u8,
     threshold: u16,
     mosaic: &[u16],
     red: &mut [u16],
@@ -175,8 +175,8 @@ fn fill_planes(
     blue: &mut [u16],
     work: &mut [i32],
 )
-    requires { ⌜ 0 ≡ ask (finish-questions (frame width height layout (now mosaic)) rounds threshold (lengths (planes (now red) (now green) (now blue))) (length (now work))) ⌝ }
-    ensures { λ _. ⌜ planes (now (red .exit)) (now (green .exit)) (now (blue .exit)) ≡ finish-lists ceiling rounds threshold (frame width height layout (now (mosaic .entry))) ⌝ }
+    requires { ⌜ 0 ≡ ask (finish-questions (frame width height layout (now mosaic)) «round_count» threshold (lengths (planes (now red) (now green) (now blue))) (length (now work))) ⌝ }
+    ensures { λ _. ⌜ planes (now (red .exit)) (now (green .exit)) (now (blue .exit)) ≡ finish-lists ceiling «round_count» threshold (frame width height layout (now (mosaic .entry))) ⌝ }
     ensures { λ _. ⌜ now (work .exit) ≡ zeroed width height (now (work .entry)) ⌝ }
 {
     estimate::estimate(width, height, layout, mosaic, red, green, blue);
@@ -185,7 +185,7 @@ fn fill_planes(
         width,
         height,
         layout,
-        rounds,
+        round_count,
         threshold,
         mosaic,
         red,
@@ -223,7 +223,7 @@ pub fn finish(
         blue.len(),
         work.len(),
     );
-    if 0 < refusal {
+    if refusal != 0 {
         return FinishAnswer::Refused(refusal, tally.next(refusal, rounds));
     }
     fill_planes(

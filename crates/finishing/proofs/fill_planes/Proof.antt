@@ -43,7 +43,7 @@ returns c =
     let second = third .before .before .before .before .before .before .before .before in
     let first = second .before .before .before .before .before .before .before .before .before in
     let s = first .before .before .before .before .before .before .before .before in
-    parts-leave (Given s) (s .args .rounds) (s .args .threshold) (Three s) (now (s .args .work)) (s .pre) (first .estimate .ensures) (second .update .ensures) (third .rounds .ensures)
+    parts-leave (Given s) (s .args .round-count) (s .args .threshold) (Three s) (now (s .args .work)) (s .pre) (first .estimate .ensures) (second .update .ensures) (third .rounds .ensures)
 
 pub fill-planes-spec : {M : Type 1} → statement M
 fill-planes-spec =
