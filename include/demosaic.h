@@ -125,6 +125,45 @@ uint32_t demosaic_rounds(size_t width, size_t height, uint8_t layout, uint8_t ro
                          uint16_t *red, size_t red_length, const uint16_t *green, size_t green_length,
                          uint16_t *blue, size_t blue_length, int32_t *work, size_t work_length);
 
+/*
+ * The finishing of a frame: estimate, update and rounds, into three planes. It needs the mosaic, how many rounds, the
+ * threshold, three planes to fill, and a work buffer. The call answers 0, or the number of the first question answered
+ * no; then no buffer was touched.
+ *
+ *    1  the width is 2 to 2,048?
+ *    2  the height is 2 to 2,048?
+ *    3  the layout is 0 to 3?
+ *    4  the rounds are at most 64?
+ *    5  the threshold is at most 4,095?
+ *    6  the mosaic has exactly width * height samples?
+ *    7  the three planes have exactly width * height samples each?
+ *    8  the work buffer has at least 8 * width * height numbers?
+ *    9  the mosaic's samples are at most 4,095 each?
+ *
+ * The work buffer's first 8 * width * height numbers hold 0 afterwards, and its rest is untouched. What planes and work
+ * buffer held before does not matter.
+ *
+ * A frame that was turned, with its layout turned along, has the same answer, and each of its planes is the frame's
+ * plane turned alike.
+ *
+ * What the caller has to keep: each pointer is not null and points to as many numbers as are said, and none of the
+ * planes and the work buffer overlaps another buffer of the call.
+ */
+uint32_t demosaic_finish(size_t width, size_t height, uint8_t layout, uint8_t rounds, uint16_t threshold,
+                         const uint16_t *mosaic, size_t mosaic_length,
+                         uint16_t *red, size_t red_length, uint16_t *green, size_t green_length,
+                         uint16_t *blue, size_t blue_length, int32_t *work, size_t work_length);
+
+/*
+ * The tally: frames finished, frames refused, rounds run. The caller holds the three counts, at first 0, and after each
+ * finishing call takes the next of each: an accepted frame (number 0) adds 1 to the first and its rounds to the third, a
+ * refused one adds 1 to the second only. Each count stops at 4,294,967,295. `number` is what demosaic_finish answered,
+ * `rounds` what it was given.
+ */
+uint32_t demosaic_tally_finished(uint32_t before, uint32_t number);
+uint32_t demosaic_tally_refused(uint32_t before, uint32_t number);
+uint32_t demosaic_tally_rounds(uint32_t before, uint32_t number, uint8_t rounds);
+
 #ifdef __cplusplus
 }
 #endif

@@ -1,11 +1,14 @@
 // What C sees of the engine: thin calls, declared in include/demosaic.h. A slice is a pointer and a length there.
+use finishing::Tally;
 ghost use mathlib.Core.Path.{_≡_};
 ghost use Rattle.questions.specs.Questions.{ask, ceiling};
 ghost use Rattle.packet.specs.Calls.{read-questions};
 ghost use Rattle.filters.specs.Bank.{brought-back};
 ghost use Rattle.turns.specs.Frames.{frame, planes};
 ghost use Rattle.bank.specs.Calls.{bands};
-ghost use Rattle.demosaic_c.specs.Calls.{SplitNumber, JoinNumber, EstimateNumber, UpdateNumber, RoundsNumber};
+ghost use Rattle.demosaic_c.specs.Calls.{SplitNumber, JoinNumber, EstimateNumber, UpdateNumber, RoundsNumber, FinishNumber};
+ghost use Rattle.finishing.specs.Tally.{finished-after, refused-after, rounds-after, zero-tally};
+ghost use Rattle.finishing.specs.Calls.{finish-call};
 
 // A packet's refusal number by the reader's questions, 0 for sound.
 #[no_mangle]
@@ -114,4 +117,58 @@ pub extern "C" fn demosaic_rounds(
         blue,
         work,
     ).number()
+}
+
+// Finishes a frame into three planes; 0 or the refusal's number. C keeps the tally, by the three calls below.
+#[no_mangle]
+pub extern "C" fn demosaic_finish(
+    width: usize,
+    height: usize,
+    layout: u8,
+    rounds: u8,
+    threshold: u16,
+    mosaic: &[u16],
+    red: &mut [u16],
+    green: &mut [u16],
+    blue: &mut [u16],
+    work: &mut [i32],
+) -> u32
+    ensures { λ r. ⌜ FinishNumber (finish-call (frame width height layout (now (mosaic .entry))) rounds threshold zero-tally (planes (now (red .entry)) (now (green .entry)) (now (blue .entry))) (now (work .entry))) r (planes (now (red .exit)) (now (green .exit)) (now (blue .exit))) (now (work .exit)) ⌝ }
+{
+    let answer = finishing::finish(
+        width,
+        height,
+        layout,
+        rounds,
+        threshold,
+        mosaic,
+        red,
+        green,
+        blue,
+        work,
+        Tally::zero(),
+    );
+    answer.number()
+}
+
+// Each count of a tally after a finishing call that answered this number.
+#[no_mangle]
+pub extern "C" fn demosaic_tally_finished(before: u32, number: u32) -> u32
+    ensures { λ r. ⌜ r ≡ finished-after before number ⌝ }
+{
+    finishing::finished_after(before, number)
+}
+
+#[no_mangle]
+pub extern "C" fn demosaic_tally_refused(before: u32, number: u32) -> u32
+    ensures { λ r. ⌜ r ≡ refused-after before number ⌝ }
+{
+    finishing::refused_after(before, number)
+}
+
+#[no_mangle]
+pub extern "C" fn demosaic_tally_rounds(before: u32, number: u32, rounds: u8) -> u32
+    ensures { λ r. ⌜ r ≡ rounds-after before number rounds ⌝ }
+{
+    finishing::rounds_after(before, number, rounds)
 }

@@ -25,8 +25,10 @@ module _ (c : FinishCall) (n : ℕ) (e : n ≡ ask (questions-of c)) where
   finish-no {t} z f = record {
     answer = answer-no number-of-answer (questions-of c) (Accepted (tally-after c)) (Refused n t) e z;
     next = f ∙ ap (λ (k : ℕ). next-tally k (c .rounds) (c .tally)) e;
-    three-planes = left-no (questions-of c) planes-made (c .before) n e z;
-    work-buffer = left-no (questions-of c) work-zeroed (c .work) n e z;
+    leaves = record {
+      three-planes = left-no (questions-of c) planes-made (c .before) n e z;
+      work-buffer = left-no (questions-of c) work-zeroed (c .work) n e z;
+    };
   }
 
   pub finish-yes : {t : Tally} → n ≡ 0 → t ≡ next-tally 0 (c .rounds) (c .tally) → {after : Planes (List ℕ)} {work-after : List ℤ} → after ≡ planes-made → work-after ≡ work-zeroed
@@ -34,8 +36,10 @@ module _ (c : FinishCall) (n : ℕ) (e : n ≡ ask (questions-of c)) where
   finish-yes {t} z f p q = record {
     answer = answer-yes number-of-answer (questions-of c) (Accepted (tally-after c)) (Accepted t) n e z refl (ap Accepted counted);
     next = counted;
-    three-planes = p ∙ left-yes (questions-of c) planes-made (c .before) n e z;
-    work-buffer = q ∙ left-yes (questions-of c) work-zeroed (c .work) n e z;
+    leaves = record {
+      three-planes = p ∙ left-yes (questions-of c) planes-made (c .before) n e z;
+      work-buffer = q ∙ left-yes (questions-of c) work-zeroed (c .work) n e z;
+    };
   }
     where
       counted : t ≡ tally-after c

@@ -112,9 +112,9 @@ pub demand-3 : (f : Frame) (turnings : List TurnRun) → TurnHistory f turnings
 demand-3 f turnings h rounds threshold {before₁} {before₂} {work₁} {work₂} rooms room {after₁ = after₁} {after₂ = after₂} p q = (
   p .answer .number ∙ ap ask alike ∙ sym (q .answer .number),
   (λ z.
-      q .three-planes ∙ sym (left-yes second _ _ 0 (sym (sym (ap ask alike) ∙ sym (p .answer .number) ∙ z)) refl)
+      q .leaves .three-planes ∙ sym (left-yes second _ _ 0 (sym (sym (ap ask alike) ∙ sym (p .answer .number) ∙ z)) refl)
       ∙ ap (finish-lists ceiling rounds threshold) (standing-turned f turnings h) ∙ finished-turned ceiling rounds threshold (accepted-turns turnings) f
-      ∙ ap (turned-planes (accepted-turns turnings) f) (left-yes first _ _ 0 (sym (sym (p .answer .number) ∙ z)) refl ∙ sym (p .three-planes))),
+      ∙ ap (turned-planes (accepted-turns turnings) f) (left-yes first _ _ 0 (sym (sym (p .answer .number) ∙ z)) refl ∙ sym (p .leaves .three-planes))),
 )
   where
     first : List Question

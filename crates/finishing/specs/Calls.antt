@@ -60,9 +60,13 @@ tally-of-answer (finish-answer.Refused number tally) = tally
 abbrev pub tally-after : FinishCall → Tally
 tally-after c = next-tally (ask (questions-of c)) (c .rounds) (c .tally)
 
--- The finishing call c: its answer r, and what the planes and the work buffer hold after.
+-- what the planes and the work buffer hold after call c
+pub record FinishLeaves (c : FinishCall) (after : Planes (List ℕ)) (work-after : List ℤ) : Type 0 where
+  pub three-planes : after ≡ if-accepted (questions-of c) (finish-lists ceiling (c .rounds) (c .threshold) (c .frame)) (c .before)
+  pub work-buffer : work-after ≡ if-accepted (questions-of c) (zeroed (c .frame .width) (c .frame .height) (c .work)) (c .work)
+
+-- and its answer r
 pub record FinishResult (c : FinishCall) (r : FinishAnswer) (after : Planes (List ℕ)) (work-after : List ℤ) : Type 0 where
   pub answer : Answered number-of-answer (questions-of c) (finish-answer.Accepted (tally-after c)) r
   pub next : tally-of-answer r ≡ tally-after c
-  pub three-planes : after ≡ if-accepted (questions-of c) (finish-lists ceiling (c .rounds) (c .threshold) (c .frame)) (c .before)
-  pub work-buffer : work-after ≡ if-accepted (questions-of c) (zeroed (c .frame .width) (c .frame .height) (c .work)) (c .work)
+  pub leaves : FinishLeaves c after work-after
