@@ -14,7 +14,6 @@ use Rattle.estimate.specs.Calls.{estimate-questions, estimate-lists}
 use Rattle.work_buffer.specs.Buffer.{zeroed}
 use Rattle.update.specs.Calls.{update-questions, update-list}
 use Rattle.rounds.specs.Calls.{rounds-questions, rounds-lists}
-use Rattle.finishing.specs.Calls.{FinishCall, questions-of, FinishLeaves}
 
 -- split, given a plane and four buffers that held `before`
 pub record SplitNumber (width height : ℕ) (given : List ℤ) (before : Bands (List ℤ)) (r : ℕ) (after : Bands (List ℤ)) : Type 0 where
@@ -42,8 +41,3 @@ pub record RoundsNumber (f : Frame) (rounds threshold : ℕ) (given : Planes (Li
   pub number : r ≡ ask (rounds-questions f rounds threshold given (length work))
   pub three-planes : after ≡ if-accepted (rounds-questions f rounds threshold given (length work)) (rounds-lists ceiling f rounds threshold given) given
   pub work-buffer : work-after ≡ if-accepted (rounds-questions f rounds threshold given (length work)) (zeroed (f .width) (f .height) work) work
-
--- the finishing call
-pub record FinishNumber (c : FinishCall) (r : ℕ) (after : Planes (List ℕ)) (work-after : List ℤ) : Type 0 where
-  pub number : r ≡ ask (questions-of c)
-  pub leaves : FinishLeaves c after work-after

@@ -6,9 +6,9 @@ ghost use Rattle.packet.specs.Calls.{read-questions};
 ghost use Rattle.filters.specs.Bank.{brought-back};
 ghost use Rattle.turns.specs.Frames.{frame, planes};
 ghost use Rattle.bank.specs.Calls.{bands};
-ghost use Rattle.demosaic_c.specs.Calls.{SplitNumber, JoinNumber, EstimateNumber, UpdateNumber, RoundsNumber, FinishNumber};
+ghost use Rattle.demosaic_c.specs.Calls.{SplitNumber, JoinNumber, EstimateNumber, UpdateNumber, RoundsNumber};
 ghost use Rattle.finishing.specs.Tally.{finished-after, refused-after, rounds-after, zero-tally};
-ghost use Rattle.finishing.specs.Calls.{finish-call};
+ghost use Rattle.finishing.specs.Calls.{finish-call, FinishNumber};
 
 // A packet's refusal number by the reader's questions, 0 for sound.
 #[no_mangle]

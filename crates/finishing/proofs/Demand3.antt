@@ -18,7 +18,7 @@ use Rattle.turns.specs.declared.TurnedFrame.the-variants.{Accepted, Refused}
 use Rattle.turns.proofs.Frames.{Whole, turned-whole, all-at-most-turned, layout-turned}
 use Rattle.turns.proofs.Calls.{frame-width, frame-height, Fillable, fillable}
 use Rattle.finishing.specs.Finishing.{finish-lists}
-use Rattle.finishing.specs.Calls.{finish-call, finish-questions, number-of-answer, FinishResult}
+use Rattle.finishing.specs.Calls.{finish-call, finish-questions, number-of-answer, FinishResult, FinishNumber}
 use Rattle.finishing.specs.Turnings.{TurnRun, left-by, TurnHistory, standing, if-turned, accepted-turns, turned-through, turned-planes}
 use Rattle.finishing.specs.declared.Tally.{Tally}
 use Rattle.finishing.specs.declared.FinishAnswer.{FinishAnswer}
@@ -27,7 +27,7 @@ use Rattle.finishing.proofs.Turned.{finished-turned}
 -- ---- an accepted turning call
 module _ (t : ℕ) (f : Frame) {before after : List ℕ} {r : TurnedFrame} (u : TurnResult t f before r after) (z : ask (frame-questions t f (length before)) ≡ 0) where
   -- leaves the turned frame
-  leaves-turned : left-by f r after ≡ turn-frame t f
+  pub leaves-turned : left-by f r after ≡ turn-frame t f
   leaves-turned =
       ap (λ (a : TurnedFrame). left-by f a after) (u .answer .accepted z)
       ∙ (λ i. frame (turn-frame t f .width) (turn-frame t f .height) (turn-frame t f .layout) (filled i))
@@ -99,22 +99,19 @@ questions-standing f [] h rounds threshold rooms work = refl
 questions-standing f (run ∷ runs) h rounds threshold rooms work =
     questions-standing (left-by f (run .answer) (run .after)) runs (h .1) rounds threshold rooms work ∙ questions-kept (run .turn) f (run .before) (run .answer) (run .after) (h .0) rounds threshold rooms work
 
--- Take any frame f and any list of turning calls, refused ones included, each given what the last accepted one before it left. Finish the
--- frame as first given, and finish what stands after the list, with the same rounds, threshold and buffer lengths, whatever planes and
--- work buffers held before, and with any tallies. Then both have the same number, 0 for accepted; and where it is 0, each plane of the
--- second is the first's plane of that colour turned by the list's accepted turns in order.
-pub demand-3 : (f : Frame) (turnings : List TurnRun) → TurnHistory f turnings
+-- the two finishings, of each only the number of its answer
+pub finished-alike : (f : Frame) (turnings : List TurnRun) → TurnHistory f turnings
     → (rounds threshold : ℕ) {before₁ before₂ : Planes (List ℕ)} {work₁ work₂ : List ℤ} → lengths before₁ ≡ lengths before₂ → length work₁ ≡ length work₂
-    → {tally₁ tally₂ : Tally} {r₁ r₂ : FinishAnswer} {after₁ after₂ : Planes (List ℕ)} {work-after₁ work-after₂ : List ℤ}
-    → FinishResult (finish-call f rounds threshold tally₁ before₁ work₁) r₁ after₁ work-after₁
-    → FinishResult (finish-call (standing f turnings) rounds threshold tally₂ before₂ work₂) r₂ after₂ work-after₂
-    → (number-of-answer r₁ ≡ number-of-answer r₂) × (number-of-answer r₁ ≡ 0 → after₂ ≡ turned-planes (accepted-turns turnings) f after₁)
-demand-3 f turnings h rounds threshold {before₁} {before₂} {work₁} {work₂} rooms room {after₁ = after₁} {after₂ = after₂} p q = (
-  p .answer .number ∙ ap ask alike ∙ sym (q .answer .number),
+    → {tally₁ tally₂ : Tally} {n₁ n₂ : ℕ} {after₁ after₂ : Planes (List ℕ)} {work-after₁ work-after₂ : List ℤ}
+    → FinishNumber (finish-call f rounds threshold tally₁ before₁ work₁) n₁ after₁ work-after₁
+    → FinishNumber (finish-call (standing f turnings) rounds threshold tally₂ before₂ work₂) n₂ after₂ work-after₂
+    → (n₁ ≡ n₂) × (n₁ ≡ 0 → after₂ ≡ turned-planes (accepted-turns turnings) f after₁)
+finished-alike f turnings h rounds threshold {before₁} {before₂} {work₁} {work₂} rooms room p q = (
+  p .number ∙ ap ask alike ∙ sym (q .number),
   (λ z.
-      q .leaves .three-planes ∙ sym (left-yes second _ _ 0 (sym (sym (ap ask alike) ∙ sym (p .answer .number) ∙ z)) refl)
+      q .leaves .three-planes ∙ sym (left-yes second _ _ 0 (sym (sym (ap ask alike) ∙ sym (p .number) ∙ z)) refl)
       ∙ ap (finish-lists ceiling rounds threshold) (standing-turned f turnings h) ∙ finished-turned ceiling rounds threshold (accepted-turns turnings) f
-      ∙ ap (turned-planes (accepted-turns turnings) f) (left-yes first _ _ 0 (sym (sym (p .answer .number) ∙ z)) refl ∙ sym (p .leaves .three-planes))),
+      ∙ ap (turned-planes (accepted-turns turnings) f) (left-yes first _ _ 0 (sym (sym (p .number) ∙ z)) refl ∙ sym (p .leaves .three-planes))),
 )
   where
     first : List Question
@@ -125,3 +122,16 @@ demand-3 f turnings h rounds threshold {before₁} {before₂} {work₁} {work�
 
     alike : first ≡ second
     alike = (λ i. finish-questions f rounds threshold (rooms i) (room i)) ∙ sym (questions-standing f turnings h rounds threshold (lengths before₂) (length work₂))
+
+-- Take any frame f and any list of turning calls, refused ones included, each given what the last accepted one before it left. Finish the
+-- frame as first given, and finish what stands after the list, with the same rounds, threshold and buffer lengths, whatever planes and
+-- work buffers held before, and with any tallies. Then both have the same number, 0 for accepted; and where it is 0, each plane of the
+-- second is the first's plane of that colour turned by the list's accepted turns in order.
+pub demand-3 : (f : Frame) (turnings : List TurnRun) → TurnHistory f turnings
+    → (rounds threshold : ℕ) {before₁ before₂ : Planes (List ℕ)} {work₁ work₂ : List ℤ} → lengths before₁ ≡ lengths before₂ → length work₁ ≡ length work₂
+    → {tally₁ tally₂ : Tally} {r₁ r₂ : FinishAnswer} {after₁ after₂ : Planes (List ℕ)} {work-after₁ work-after₂ : List ℤ}
+    → FinishResult (finish-call f rounds threshold tally₁ before₁ work₁) r₁ after₁ work-after₁
+    → FinishResult (finish-call (standing f turnings) rounds threshold tally₂ before₂ work₂) r₂ after₂ work-after₂
+    → (number-of-answer r₁ ≡ number-of-answer r₂) × (number-of-answer r₁ ≡ 0 → after₂ ≡ turned-planes (accepted-turns turnings) f after₁)
+demand-3 f turnings h rounds threshold rooms room p q =
+    finished-alike f turnings h rounds threshold rooms room (record { number = p .answer .number; leaves = p .leaves }) (record { number = q .answer .number; leaves = q .leaves })

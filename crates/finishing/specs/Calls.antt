@@ -70,3 +70,8 @@ pub record FinishResult (c : FinishCall) (r : FinishAnswer) (after : Planes (Lis
   pub answer : Answered number-of-answer (questions-of c) (finish-answer.Accepted (tally-after c)) r
   pub next : tally-of-answer r ≡ tally-after c
   pub leaves : FinishLeaves c after work-after
+
+-- and only the number of its answer
+pub record FinishNumber (c : FinishCall) (r : ℕ) (after : Planes (List ℕ)) (work-after : List ℤ) : Type 0 where
+  pub number : r ≡ ask (questions-of c)
+  pub leaves : FinishLeaves c after work-after

@@ -1,0 +1,153 @@
+-- What the functions that run demand 3 leave. Assumes nothing.
+use mathlib.Core.Path.{_≡_, refl, sym, _∙_, ap, subst}
+use mathlib.Core.Bool.{Bool, true, false, cond, not, xor}
+use mathlib.Core.List.{List, _∷_}
+use Prim.Native.Nat.{ℕ, _+_, _≤_, _<_}
+use native.Mathlib.Numerals.{add-one}
+use lib.IntN.{ℤ}
+use lib.ListN.{length, drop, getD, drop-of-length-le}
+use lib.Seq.{drop-cons}
+use Rattle.questions.specs.Questions.{ask}
+use Rattle.questions.specs.Answers.{if-accepted}
+use Rattle.questions.proofs.Answering.{left-no, left-yes}
+use Rattle.turns.specs.Frames.{Frame, frame, Planes, turn-frame}
+use Rattle.turns.specs.Turning.{frame-questions, accepted-as, TurnResult}
+use Rattle.turns.specs.declared.TurnedFrame.{TurnedFrame}
+use Rattle.turns.specs.declared.TurnedFrame.the-variants.{Accepted, Refused}
+use Rattle.finishing.specs.Tally.{zero-tally}
+use Rattle.finishing.specs.Calls.{finish-call, FinishNumber}
+use Rattle.finishing.specs.Turnings.{turned-planes, standing, accepted-turns}
+use Rattle.finishing.proofs.Demand3.{leaves-turned, finished-alike}
+use Rattle.turned_finishing.specs.Between.{Between, between, first-holds, second-holds, turn-questions, turned-once, turned-all, turns-taken}
+use Rattle.turned_finishing.specs.Alike.{stands, Moved, lent, Lent, FinishedAlike}
+use Rattle.turned_finishing.specs.declared.alike.Standing.{Standing}
+use Rattle.turned_finishing.specs.declared.alike.Numbers.{Numbers}
+use Rattle.turned_finishing.proofs.Histories.{runs-of, history-of, standing-of, taken-of}
+
+abbrev standing-at : ℕ → ℕ → ℕ → Bool → Standing
+standing-at w h l swapped = record { width = w; height = h; layout = l; swapped = swapped }
+
+-- ---- a turning call from one mosaic into another
+module _ (t : ℕ) (at : Standing) (from to : List ℕ) where
+  abbrev given : Frame
+  given = frame (at .width) (at .height) (at .layout) from
+
+  pub moved-yes : {r : TurnedFrame} {w h l : ℕ} {after : List ℕ} → TurnResult t given to r after → r ≡ Accepted w h l → Moved t at from to (standing-at w h l (not (at .swapped))) after
+  unfolding turned-once
+  moved-yes {r} {w} {h} {l} {after} first e =
+      let u : TurnResult t given to (Accepted w h l) after = subst (λ (a : TurnedFrame). TurnResult t given to a after) e first in
+      (λ i. between (frame w h l (cond (other (at .swapped) i) after from)) (cond (other (at .swapped) i) from after) (not (at .swapped)))
+      ∙ (λ i. between (leaves-turned t given u (sym (u .answer .number)) i) from (not (at .swapped)))
+      ∙ left-yes (frame-questions t given (length to)) _ _ 0 (u .answer .number) refl
+    where
+      other : (s : Bool) → xor (not s) s ≡ true
+      other true = unfold xor in refl
+      other false = unfold xor in refl
+
+  pub moved-no : {r : TurnedFrame} {n : ℕ} {after : List ℕ} → TurnResult t given to r after → r ≡ Refused n → Moved t at from to at after
+  unfolding turned-once
+  moved-no {r} {n} {after} first e =
+      (λ i. between (frame (at .width) (at .height) (at .layout) (cond (same (at .swapped) i) after from)) (cond (same (at .swapped) i) from after) (at .swapped))
+      ∙ (λ i. between given (kept i) (at .swapped))
+      ∙ left-no (frame-questions t given (length to)) _ _ n (u .answer .number) refused
+    where
+      same : (s : Bool) → xor s s ≡ false
+      same true = unfold xor in refl
+      same false = unfold xor in refl
+
+      is-refusal : TurnedFrame → Type 0
+      is-refusal (Accepted w h l) = ⊥
+      is-refusal (Refused n) = Unit
+
+      u : TurnResult t given to (Refused n) after
+      u = subst (λ (a : TurnedFrame). TurnResult t given to a after) e first
+
+      refused : n ≡ 0 → ⊥
+      refused z = subst is-refusal (u .answer .accepted (sym (u .answer .number) ∙ z)) tt
+
+      kept : after ≡ to
+      kept = u .buffer ∙ sym (left-no (frame-questions t given (length to)) (turn-frame t given .samples) to n (u .answer .number) refused)
+
+-- ---- from the mosaic where the frame stands
+chosen : (s : Bool) (x y : List ℕ) → cond (xor s true) x y ≡ cond s y x
+chosen true x y = unfold xor in refl
+chosen false x y = unfold xor in refl
+
+chosen-not : (s : Bool) (x y : List ℕ) → cond (xor s false) x y ≡ cond s x y
+chosen-not true x y = unfold xor in refl
+chosen-not false x y = unfold xor in refl
+
+module _ (t : ℕ) (at r : Standing) (first second after : List ℕ) where
+  -- the turned frame, where the call was given the frame as it stands
+  given-standing : {s : Bool} → at .swapped ≡ s → {b : Between}
+      → b ≡ turned-once t (between (frame (at .width) (at .height) (at .layout) (cond s second first)) (cond s first second) (at .swapped)) → b ≡ turned-once t (stands at first second)
+  given-standing e m = m ∙ (λ i. turned-once t (between (frame (at .width) (at .height) (at .layout) (cond (sym e i) second first)) (cond (sym e i) first second) (at .swapped)))
+
+  pub once-second : at .swapped ≡ true → Moved t at second first r after → stands r after second ≡ turned-once t (stands at first second)
+  once-second e m =
+      (λ i. between (frame (r .width) (r .height) (r .layout) (place after second i)) (place second after i) (r .swapped)) ∙ given-standing e m
+    where
+      place : (x y : List ℕ) → cond (r .swapped) y x ≡ cond (xor (r .swapped) (at .swapped)) x y
+      place x y = sym (chosen (r .swapped) x y) ∙ ap (λ (s : Bool). cond (xor (r .swapped) s) x y) (sym e)
+
+  pub once-first : at .swapped ≡ false → Moved t at first second r after → stands r first after ≡ turned-once t (stands at first second)
+  once-first e m =
+      (λ i. between (frame (r .width) (r .height) (r .layout) (place after first i)) (place first after i) (r .swapped)) ∙ given-standing e m
+    where
+      place : (x y : List ℕ) → cond (r .swapped) x y ≡ cond (xor (r .swapped) (at .swapped)) x y
+      place x y = sym (chosen-not (r .swapped) x y) ∙ ap (λ (s : Bool). cond (xor (r .swapped) s) x y) (sym e)
+
+-- ---- one after another: what is left of the turns, from what stands now, gives what all of them give
+pub all-step : (ts : List ℕ) (k : ℕ) → k < length ts → (b : Between) {b' end : Between} → b' ≡ turned-once (getD ts k 0) b → turned-all (drop k ts) b ≡ end → turned-all (drop (k + 1) ts) b' ≡ end
+unfolding turned-all
+all-step ts k h b e p =
+    ap (turned-all (drop (k + 1) ts)) e ∙ ap (λ (n : ℕ). turned-all (drop n ts) (turned-once (getD ts k 0) b)) (add-one k)
+    ∙ sym (ap (λ (l : List ℕ). turned-all l b) (drop-cons ts k 0 h)) ∙ p
+
+pub all-done : (ts : List ℕ) (k : ℕ) → length ts ≤ k → {b end : Between} → turned-all (drop k ts) b ≡ end → b ≡ end
+unfolding turned-all
+all-done ts k h {b} p = sym (ap (λ (l : List ℕ). turned-all l b) (drop-of-length-le ts h)) ∙ p
+
+-- ---- finished from the mosaic where the frame stands
+pub finished-standing : (at : Standing) (first second : List ℕ) {s : Bool} → at .swapped ≡ s → {rounds threshold n : ℕ} {before after : Planes (List ℕ)} {work work-after : List ℤ}
+    → FinishNumber (finish-call (frame (at .width) (at .height) (at .layout) (cond s second first)) rounds threshold zero-tally before work) n after work-after
+    → FinishNumber (finish-call (stands at first second .frame) rounds threshold zero-tally before work) n after work-after
+finished-standing at first second e {rounds} {threshold} {n} {before} {after} {work} {work-after} q =
+    subst (λ (s : Bool). FinishNumber (finish-call (frame (at .width) (at .height) (at .layout) (cond s second first)) rounds threshold zero-tally before work) n after work-after) (sym e) q
+
+-- ---- all of it
+first-is : (at : Standing) (first second : List ℕ) → first-holds (stands at first second) ≡ first
+first-is at first second = go (at .swapped)
+  where
+    go : (s : Bool) → cond s (cond s first second) (cond s second first) ≡ first
+    go true = refl
+    go false = refl
+
+second-is : (at : Standing) (first second : List ℕ) → second-holds (stands at first second) ≡ second
+second-is at first second = go (at .swapped)
+  where
+    go : (s : Bool) → cond s (cond s second first) (cond s first second) ≡ second
+    go true = refl
+    go false = refl
+
+pub run-alike : (turns : List ℕ) (f : Frame) (other : List ℕ) (rounds threshold : ℕ) (before₁ before₂ : Lent) {n₁ n₂ : ℕ} {at : Standing} {first second : List ℕ} {after₁ after₂ : Lent}
+    → FinishNumber (finish-call f rounds threshold zero-tally (before₁ .three) (before₁ .work)) n₁ (after₁ .three) (after₁ .work)
+    → stands at first second ≡ turned-all turns (between f other false)
+    → FinishNumber (finish-call (stands at first second .frame) rounds threshold zero-tally (before₂ .three) (before₂ .work)) n₂ (after₂ .three) (after₂ .work)
+    → FinishedAlike turns f other rounds threshold before₁ before₂ (record { given = n₁; turned = n₂ }) first second after₁ after₂
+run-alike turns f other rounds threshold before₁ before₂ {n₁} {n₂} {at} {first} {second} {after₁} {after₂} p e q = record {
+  given = p;
+  turned = stood;
+  first-mosaic = sym (first-is at first second) ∙ ap first-holds e;
+  second-mosaic = sym (second-is at first second) ∙ ap second-holds e;
+  alike = λ rooms room.
+      subst (λ (ts : List ℕ). (n₁ ≡ n₂) × (n₁ ≡ 0 → after₂ .three ≡ turned-planes ts f (after₁ .three))) (taken-of turns start)
+      (finished-alike f (runs-of turns start) (history-of turns start) rounds threshold rooms room p
+      (subst (λ (g : Frame). FinishNumber (finish-call g rounds threshold zero-tally (before₂ .three) (before₂ .work)) n₂ (after₂ .three) (after₂ .work)) (sym (standing-of turns start)) stood));
+}
+  where
+    start : Between
+    start = between f other false
+
+    stood : FinishNumber (finish-call (turned-all turns start .frame) rounds threshold zero-tally (before₂ .three) (before₂ .work)) n₂ (after₂ .three) (after₂ .work)
+    stood = subst (λ (b : Between). FinishNumber (finish-call (b .frame) rounds threshold zero-tally (before₂ .three) (before₂ .work)) n₂ (after₂ .three) (after₂ .work)) e q

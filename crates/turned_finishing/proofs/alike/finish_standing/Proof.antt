@@ -1,0 +1,64 @@
+-- `turned_finishing::alike::finish_standing` meets its contract.
+-- Assumes nothing.
+use denote.Ref.{now}
+use Rattle.turned_finishing.proofs.Moving.{finished-standing}
+use borrow.Author.Needs.{needs}
+use Rattle.turned_finishing.proofs.alike.finish_standing.Statement.{statement}
+use Rattle.turned_finishing.proofs.alike.finish_standing.Tie as tie
+
+finish-number-requires : tie.Need-finish-number-requires
+finish-number-requires c κs = search needs
+
+same-length : tie.Need-same-length
+same-length c = search needs
+
+same-length-2 : tie.Need-same-length-2
+same-length-2 c = search needs
+
+same-length-3 : tie.Need-same-length-3
+same-length-3 c = search needs
+
+same-length-4 : tie.Need-same-length-4
+same-length-4 c = search needs
+
+returns : tie.Need-returns
+returns c =
+    let a = c .before .before .before .before .before .before .before .before .before .before .before .before .before .before .before .before .before .before .args in
+    finished-standing (a .at) (now (a .first)) (now (a .second)) (c .before .before .before .before .before .before .before .before .before .before .before .before .if1 .taken) (c .before .before .before .before .before .before .before .finish-number .ensures)
+
+finish-number-requires-2 : tie.Need-finish-number-requires-2
+finish-number-requires-2 c κs = search needs
+
+same-length-5 : tie.Need-same-length-5
+same-length-5 c = search needs
+
+same-length-6 : tie.Need-same-length-6
+same-length-6 c = search needs
+
+same-length-7 : tie.Need-same-length-7
+same-length-7 c = search needs
+
+same-length-8 : tie.Need-same-length-8
+same-length-8 c = search needs
+
+returns-2 : tie.Need-returns-2
+returns-2 c =
+    let a = c .before .before .before .before .before .before .before .before .before .before .before .before .before .before .before .before .before .before .args in
+    finished-standing (a .at) (now (a .first)) (now (a .second)) (c .before .before .before .before .before .before .before .before .before .before .before .before .if1 .left) (c .before .before .before .before .before .before .before .finish-number2 .ensures)
+
+pub finish-standing-spec : {M : Type 1} → statement M
+finish-standing-spec =
+    tie.close
+    (tie.spec
+    finish-number-requires
+    same-length
+    same-length-2
+    same-length-3
+    same-length-4
+    returns
+    finish-number-requires-2
+    same-length-5
+    same-length-6
+    same-length-7
+    same-length-8
+    returns-2)

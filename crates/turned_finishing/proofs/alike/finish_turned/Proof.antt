@@ -1,0 +1,77 @@
+-- `turned_finishing::alike::finish_turned` meets its contract: demand 3, with the turning calls that ran.
+-- Assumes nothing.
+use denote.Ref.{now}
+use Rattle.turns.specs.Frames.{frame, planes}
+use Rattle.turned_finishing.specs.Alike.{lent}
+use Rattle.turned_finishing.proofs.Moving.{run-alike}
+use borrow.Author.Needs.{needs}
+use Rattle.turned_finishing.proofs.alike.finish_turned.Statement.{statement}
+use Rattle.turned_finishing.proofs.alike.finish_turned.Tie as tie
+
+finish-number-requires : tie.Need-finish-number-requires
+finish-number-requires c κs = search needs
+
+turn-all-requires : tie.Need-turn-all-requires
+turn-all-requires c κs = search needs
+
+finish-standing-requires : tie.Need-finish-standing-requires
+finish-standing-requires c κs = search needs
+
+same-length : tie.Need-same-length
+same-length c = search needs
+
+same-length-2 : tie.Need-same-length-2
+same-length-2 c = search needs
+
+same-length-3 : tie.Need-same-length-3
+same-length-3 c = search needs
+
+same-length-4 : tie.Need-same-length-4
+same-length-4 c = search needs
+
+same-length-5 : tie.Need-same-length-5
+same-length-5 c = search needs
+
+same-length-6 : tie.Need-same-length-6
+same-length-6 c = search needs
+
+same-length-7 : tie.Need-same-length-7
+same-length-7 c = search needs
+
+same-length-8 : tie.Need-same-length-8
+same-length-8 c = search needs
+
+same-length-9 : tie.Need-same-length-9
+same-length-9 c = search needs
+
+same-length-10 : tie.Need-same-length-10
+same-length-10 c = search needs
+
+returns : tie.Need-returns
+returns c =
+    let second = c .before .before .before .before .before .before .before in
+    let moved = second .before .before .before .before .before .before .before .before .before .before .before in
+    let first = moved .before .before .before .before .before .before .before .before .before .before in
+    let a = first .before .before .before .before .before .before .before .before .before .before .before .before .before .before .before .args in
+    run-alike (now (a .turns)) (frame (a .width) (a .height) (a .layout) (now (a .first))) (now (a .second)) (a .rounds) (a .threshold)
+    (lent (planes (now (a .red1)) (now (a .green1)) (now (a .blue1))) (now (a .work1))) (lent (planes (now (a .red2)) (now (a .green2)) (now (a .blue2))) (now (a .work2)))
+    (first .finish-number .ensures) (moved .turn-all .ensures) (second .finish-standing .ensures)
+
+pub finish-turned-spec : {M : Type 1} → statement M
+finish-turned-spec =
+    tie.close
+    (tie.spec
+    finish-number-requires
+    turn-all-requires
+    finish-standing-requires
+    same-length
+    same-length-2
+    same-length-3
+    same-length-4
+    same-length-5
+    same-length-6
+    same-length-7
+    same-length-8
+    same-length-9
+    same-length-10
+    returns)

@@ -1,0 +1,43 @@
+-- Demand 3 as a function that runs it: what it promises. Assumes nothing.
+use mathlib.Core.Path.{_≡_}
+use mathlib.Core.Bool.{false, cond, xor}
+use mathlib.Core.List.{List}
+use Prim.Native.Nat.{ℕ}
+use lib.IntN.{ℤ}
+use lib.ListN.{length}
+use Rattle.turns.specs.Frames.{Frame, frame, Planes, lengths}
+use Rattle.finishing.specs.Tally.{zero-tally}
+use Rattle.finishing.specs.Calls.{finish-call, FinishNumber}
+use Rattle.finishing.specs.Turnings.{turned-planes}
+use Rattle.turned_finishing.specs.Between.{Between, between, first-holds, second-holds, turned-once, turned-all, turns-taken}
+use Rattle.turned_finishing.specs.declared.alike.Numbers.{Numbers}
+use Rattle.turned_finishing.specs.declared.alike.Standing.{Standing}
+
+-- the frame that stands, by its shape and by which of two mosaics holds its samples
+abbrev pub stands : Standing → List ℕ → List ℕ → Between
+stands at first second = between (frame (at .width) (at .height) (at .layout) (cond (at .swapped) second first)) (cond (at .swapped) first second) (at .swapped)
+
+-- a turning call from one mosaic into another, which held `to` and holds `to-after`: r is where the frame stands then
+abbrev pub Moved : ℕ → Standing → List ℕ → List ℕ → Standing → List ℕ → Type 0
+Moved turn at from to r to-after =
+    between (frame (r .width) (r .height) (r .layout) (cond (xor (r .swapped) (at .swapped)) to-after from)) (cond (xor (r .swapped) (at .swapped)) from to-after) (r .swapped)
+    ≡ turned-once turn (between (frame (at .width) (at .height) (at .layout) from) to (at .swapped))
+
+-- what a finishing holds of planes and work
+pub record Lent : Type 0 where
+  pub three : Planes (List ℕ)
+  pub work : List ℤ
+
+abbrev pub lent : Planes (List ℕ) → List ℤ → Lent
+lent three work = record { three = three; work = work }
+
+-- Frame f is finished as given; a list of turning calls takes it back and forth between two mosaics, the second of which held `other`;
+-- what stands then is finished. r has both numbers.
+pub record FinishedAlike (turns : List ℕ) (f : Frame) (other : List ℕ) (rounds threshold : ℕ) (before₁ before₂ : Lent) (r : Numbers) (first second : List ℕ) (after₁ after₂ : Lent) : Type 0 where
+  pub given : FinishNumber (finish-call f rounds threshold zero-tally (before₁ .three) (before₁ .work)) (r .given) (after₁ .three) (after₁ .work)
+  pub turned : FinishNumber (finish-call (turned-all turns (between f other false) .frame) rounds threshold zero-tally (before₂ .three) (before₂ .work)) (r .turned) (after₂ .three) (after₂ .work)
+  pub first-mosaic : first ≡ first-holds (turned-all turns (between f other false))
+  pub second-mosaic : second ≡ second-holds (turned-all turns (between f other false))
+  -- with the same buffer lengths both have the same number, and where they are accepted the planes are turned by the accepted turns
+  pub alike : lengths (before₁ .three) ≡ lengths (before₂ .three) → length (before₁ .work) ≡ length (before₂ .work)
+      → (r .given ≡ r .turned) × (r .given ≡ 0 → after₂ .three ≡ turned-planes (turns-taken turns (between f other false)) f (after₁ .three))

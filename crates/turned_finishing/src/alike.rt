@@ -1,0 +1,168 @@
+// Demand 3, run: a frame finished as given, and finished as it stands after a list of turning calls.
+use finishing::Tally;
+use turns::Turn;
+use turns::TurnedFrame;
+ghost use mathlib.Core.Path.{_≡_};
+ghost use mathlib.Core.Bool.{cond, false};
+ghost use lib.ListN.{length};
+ghost use Rattle.turns.specs.Frames.{frame, planes};
+ghost use Rattle.finishing.specs.Tally.{zero-tally};
+ghost use Rattle.finishing.specs.Calls.{finish-call, FinishNumber};
+ghost use Rattle.turned_finishing.specs.Between.{turned-once, turned-all};
+ghost use Rattle.turned_finishing.specs.Alike.{stands, Moved, lent, FinishedAlike};
+
+// Where the frame stands: its width, height and layout, and whether the second mosaic holds its samples.
+pub(crate) struct Standing {
+    pub(crate) width: usize,
+    pub(crate) height: usize,
+    pub(crate) layout: u8,
+    pub(crate) swapped: bool,
+}
+
+// The numbers of both finishings, 0 for accepted.
+pub(crate) struct Numbers {
+    pub(crate) given: u32,
+    pub(crate) turned: u32,
+}
+
+// A turning call from one mosaic into the other.
+fn turn_between(turn: u8, at: Standing, from: &[u16], to: &mut [u16]) -> Standing
+    ensures { λ r. ⌜ Moved turn at (now (from .entry)) (now (to .entry)) r (now (to .exit)) ⌝ }
+{
+    let turned = turns::turn_samples(
+        Turn { number: turn },
+        at.width,
+        at.height,
+        at.layout,
+        from,
+        to,
+    );
+    match turned {
+        TurnedFrame::Accepted {
+            width,
+            height,
+            layout,
+        } => Standing {
+            width,
+            height,
+            layout,
+            swapped: !at.swapped,
+        },
+        TurnedFrame::Refused(_) => at,
+    }
+}
+
+// A turning call from the mosaic where the frame stands.
+fn turn_once(turn: u8, at: Standing, first: &mut [u16], second: &mut [u16]) -> Standing
+    ensures { λ r. ⌜ stands r (now (first .exit)) (now (second .exit)) ≡ turned-once turn (stands at (now (first .entry)) (now (second .entry))) ⌝ }
+{
+    if at.swapped {
+        return turn_between(turn, at, second, first);
+    }
+    turn_between(turn, at, first, second)
+}
+
+// All of them, one after another.
+fn turn_all(turns: &[u8], start: Standing, first: &mut [u16], second: &mut [u16]) -> Standing
+    ensures { λ r. ⌜ stands r (now (first .exit)) (now (second .exit)) ≡ turned-all (now (turns .entry)) (stands start (now (first .entry)) (now (second .entry))) ⌝ }
+{
+    let mut at = start;
+    let mut k = 0;
+    while k < turns.len() {
+        at = turn_once(turns[k], at, first, second);
+        k += 1;
+    }
+    at
+}
+
+// The finishing call's number, of a frame whose samples this mosaic holds.
+fn finish_number(
+    at: Standing,
+    rounds: u8,
+    threshold: u16,
+    mosaic: &[u16],
+    red: &mut [u16],
+    green: &mut [u16],
+    blue: &mut [u16],
+    work: &mut [i32],
+) -> u32
+    ensures { λ r. ⌜ FinishNumber (finish-call (frame (at .width) (at .height) (at .layout) (now (mosaic .entry))) rounds threshold zero-tally (planes (now (red .entry)) (now (green .entry)) (now (blue .entry))) (now (work .entry))) r (planes (now (red .exit)) (now (green .exit)) (now (blue .exit))) (now (work .exit)) ⌝ }
+{
+    let answer = finishing::finish(
+        at.width,
+        at.height,
+        at.layout,
+        rounds,
+        threshold,
+        mosaic,
+        red,
+        green,
+        blue,
+        work,
+        Tally::zero(),
+    );
+    answer.number()
+}
+
+// The frame finished from the mosaic where it stands.
+fn finish_standing(
+    at: Standing,
+    rounds: u8,
+    threshold: u16,
+    first: &[u16],
+    second: &[u16],
+    red: &mut [u16],
+    green: &mut [u16],
+    blue: &mut [u16],
+    work: &mut [i32],
+) -> u32
+    ensures { λ r. ⌜ FinishNumber (finish-call (stands at (now (first .entry)) (now (second .entry)) .frame) rounds threshold zero-tally (planes (now (red .entry)) (now (green .entry)) (now (blue .entry))) (now (work .entry))) r (planes (now (red .exit)) (now (green .exit)) (now (blue .exit))) (now (work .exit)) ⌝ }
+{
+    if at.swapped {
+        return finish_number(at, rounds, threshold, second, red, green, blue, work);
+    }
+    finish_number(at, rounds, threshold, first, red, green, blue, work)
+}
+
+// Finishes the frame in the first mosaic; turns it by these turns, back and forth between the two; finishes what stands then.
+pub(crate) fn finish_turned(
+    turns: &[u8],
+    width: usize,
+    height: usize,
+    layout: u8,
+    rounds: u8,
+    threshold: u16,
+    first: &mut [u16],
+    second: &mut [u16],
+    red1: &mut [u16],
+    green1: &mut [u16],
+    blue1: &mut [u16],
+    work1: &mut [i32],
+    red2: &mut [u16],
+    green2: &mut [u16],
+    blue2: &mut [u16],
+    work2: &mut [i32],
+) -> Numbers
+    ensures { λ r. ⌜ FinishedAlike (now (turns .entry)) (frame width height layout (now (first .entry))) (now (second .entry)) rounds threshold (lent (planes (now (red1 .entry)) (now (green1 .entry)) (now (blue1 .entry))) (now (work1 .entry))) (lent (planes (now (red2 .entry)) (now (green2 .entry)) (now (blue2 .entry))) (now (work2 .entry))) r (now (first .exit)) (now (second .exit)) (lent (planes (now (red1 .exit)) (now (green1 .exit)) (now (blue1 .exit))) (now (work1 .exit))) (lent (planes (now (red2 .exit)) (now (green2 .exit)) (now (blue2 .exit))) (now (work2 .exit))) ⌝ }
+{
+    let start = Standing {
+        width,
+        height,
+        layout,
+        swapped: false,
+    };
+    let given = finish_number(start, rounds, threshold, first, red1, green1, blue1, work1);
+    let at = turn_all(turns, start, first, second);
+    let turned = finish_standing(
+        at,
+        rounds,
+        threshold,
+        first,
+        second,
+        red2,
+        green2,
+        blue2,
+        work2,
+    );
+    Numbers { given, turned }
+}

@@ -1,0 +1,3 @@
+mod alike;
+
+fn main() {}
