@@ -51,6 +51,34 @@ impl Chance {
         samples
     }
 
+    /// Any samples of 16 bits, in range or not: what a lent plane may have held before.
+    pub fn any_samples(&mut self, count: usize) -> Vec<u16> {
+        let mut samples = Vec::new();
+        for _ in 0..count {
+            let any = self.next() as u16;
+            samples.push(self.one_of(&[0, 4095, 65_535, any, any, any]));
+        }
+        samples
+    }
+
+    /// Any numbers of 32 bits: what a work buffer may have held before.
+    pub fn any_numbers(&mut self, count: usize) -> Vec<i32> {
+        let mut numbers = Vec::new();
+        for _ in 0..count {
+            let any = self.next() as i32;
+            numbers.push(self.one_of(&[i32::MIN, -1, i32::MAX, any, any, any]));
+        }
+        numbers
+    }
+
+    /// Fields of a frame of this size, with one round to three; the rest by chance.
+    pub fn few_rounds(&mut self, width: usize, height: usize) -> Fields {
+        let any = self.between(0, 4095) as u16;
+        let threshold = self.one_of(&[0, 1, 20, 20, 300, any, 4094, 4095]);
+        let (layout, rounds) = (self.between(0, 3) as u8, self.one_of(&[1, 1, 2, 3]));
+        Fields { width, height, layout, rounds, threshold }
+    }
+
     /// Fields in range; width and height are 2 to 9.
     pub fn small_fields(&mut self) -> Fields {
         let within = self.between(0, 4095) as u16;

@@ -13,6 +13,9 @@ pub struct Fields {
 /// How many bytes the trailer has.
 const TRAILER: usize = 12;
 
+/// The packet that document 01 prints.
+pub const PRINTED: [u8; 20] = [100, 0, 50, 0, 50, 0, 20, 0, 2, 0, 2, 0, 0, 8, 0, 0, 20, 0, 0, 0];
+
 /// The number that the bytes hold, low byte first.
 fn number(bytes: &[u8]) -> u64 {
     let mut value = 0;
@@ -34,7 +37,7 @@ fn low_byte_first(value: u64, count: usize) -> Vec<u8> {
 }
 
 /// The samples that the bytes hold.
-fn samples_of(part: &[u8]) -> Vec<u16> {
+pub fn samples_of(part: &[u8]) -> Vec<u16> {
     part.chunks(2).map(|pair| number(pair) as u16).collect()
 }
 
@@ -182,8 +185,6 @@ pub fn repeats(a: &[u8], b: &[u8]) -> Result<bool, u32> {
 #[cfg(test)]
 mod tests {
     use super::*;
-
-    const PRINTED: [u8; 20] = [100, 0, 50, 0, 50, 0, 20, 0, 2, 0, 2, 0, 0, 8, 0, 0, 20, 0, 0, 0];
 
     const PRINTED_FIELDS: Fields = Fields { width: 2, height: 2, layout: 0, rounds: 8, threshold: 0 };
 

@@ -1,10 +1,7 @@
 //! What the program `packet_examples` must write: examples of the packet's calls, computed by the reference.
 
-use crate::packet::{self, Fields};
-use std::fmt::Display;
-
-/// The packet that document 01 prints.
-const PRINTED: [u8; 20] = [100, 0, 50, 0, 50, 0, 20, 0, 2, 0, 2, 0, 0, 8, 0, 0, 20, 0, 0, 0];
+use crate::packet::{self, Fields, PRINTED};
+use crate::text::{line, refused};
 
 /// The frame that the writer is given.
 const WRITTEN: Fields = Fields { width: 3, height: 2, layout: 1, rounds: 64, threshold: 4095 };
@@ -22,17 +19,6 @@ fn after_older_bytes() -> Vec<u8> {
     let mut store = vec![255; 3];
     store.extend(PRINTED);
     store
-}
-
-/// A line of numbers or words, parted by one space.
-fn line<T: Display>(out: &mut String, words: &[T]) {
-    let words: Vec<String> = words.iter().map(T::to_string).collect();
-    out.push_str(&words.join(" "));
-    out.push('\n');
-}
-
-fn refused(out: &mut String, number: u32) {
-    line(out, &[format!("refused {number}")]);
 }
 
 /// Width, height, layout, rounds and threshold.

@@ -108,13 +108,6 @@ mod tests {
         [(); 3].map(|_| chance.samples(count))
     }
 
-    /// Fields of a frame of this size; the rest by chance.
-    fn fields_of(chance: &mut Chance, width: usize, height: usize) -> Fields {
-        let rounds = chance.between(1, 3) as u8;
-        let threshold = chance.one_of(&[0, 1, 20, 300, 4095]);
-        Fields { width, height, layout: chance.between(0, 3) as u8, rounds, threshold }
-    }
-
     #[test]
     fn cases_e_f_and_g() {
         assert_eq!([17, 16, -17].map(|value| held(value, 0, 1)), [16, 16, -16]);
@@ -171,7 +164,7 @@ mod tests {
     fn no_round_changes_nothing() {
         let chance = &mut Chance(0x2545_f491_4f6c_dd1d);
         for (width, height) in [(2, 2), (3, 2), (2, 5), (8, 7)] {
-            let fields = Fields { rounds: 0, ..fields_of(chance, width, height) };
+            let fields = Fields { rounds: 0, ..chance.few_rounds(width, height) };
             let planes = random_planes(chance, width * height);
             let [red, blue] = rounds_of(&fields, &chance.samples(width * height), &planes);
             assert_eq!([&red, &blue], [&planes[0], &planes[2]], "{fields:?}");
@@ -184,7 +177,7 @@ mod tests {
     fn the_largest_threshold_holds_nothing() {
         let chance = &mut Chance(0xfedc_ba98_7654_3210);
         for (width, height) in [(2, 2), (3, 2), (2, 5), (8, 7)] {
-            let fields = Fields { threshold: 4095, ..fields_of(chance, width, height) };
+            let fields = Fields { threshold: 4095, ..chance.few_rounds(width, height) };
             let samples = chance.samples(width * height);
             let planes = random_planes(chance, width * height);
             let mosaic = Mosaic { width, height, layout: fields.layout, samples: &samples };
@@ -219,7 +212,7 @@ mod tests {
     fn without_a_threshold_by_the_low_band() {
         let chance = &mut Chance(0x0123_4567_89ab_cdef);
         for (width, height) in (2..=9).flat_map(|width| (2..=9).map(move |height| (width, height))) {
-            let fields = Fields { threshold: 0, ..fields_of(chance, width, height) };
+            let fields = Fields { threshold: 0, ..chance.few_rounds(width, height) };
             let samples = chance.samples(width * height);
             let planes = random_planes(chance, width * height);
             let mosaic = Mosaic { width, height, layout: fields.layout, samples: &samples };
@@ -272,7 +265,7 @@ mod tests {
         let chance = &mut Chance(0x9e37_79b9_7f4a_7c15);
         for (width, height) in [(2, 2), (3, 2), (2, 5), (5, 4), (7, 7), (9, 12)] {
             for layout in 0..4 {
-                let fields = Fields { layout, ..fields_of(chance, width, height) };
+                let fields = Fields { layout, ..chance.few_rounds(width, height) };
                 let framed = |samples| Frame { width, height, layout, samples };
                 let mosaic = framed(chance.samples(width * height));
                 let planes = random_planes(chance, width * height);

@@ -1,0 +1,232 @@
+//! What the tests of the rounds call and of the finishing call share: both are given a frame's fields and its mosaic, three
+//! planes and a work buffer.
+
+use crate::buffers::Buffer;
+use crate::chance::Chance;
+use crate::packet::Fields;
+use crate::refusals::{
+    answered, short_work, sufficient_work, wrong_lengths, Counts, FrameCall, LARGEST, NO_LENGTH, NO_SAMPLE,
+    SHAPES, TRIES, TRIES_IN_THE_LARGEST,
+};
+use std::marker::PhantomData;
+
+/// Red, green and blue.
+pub type Planes = [Vec<u16>; 3];
+pub const COLOURS: [&str; 3] = ["red", "green", "blue"];
+
+/// A call over the fields, the mosaic, the planes and the work buffer.
+pub type Call = fn(&Fields, &[u16], [&mut [u16]; 3], &mut [i32]) -> Result<(), u32>;
+
+/// One of the two calls, of the library and of the reference.
+pub trait PlanesCall: Clone {
+    const NAME: &'static str;
+    /// Its questions in their order.
+    const QUESTIONS: &'static [u32];
+    const LIBRARY: Call;
+    const REFERENCE: Call;
+
+    /// A plane of so many samples, as the call takes it.
+    fn plane(chance: &mut Chance, count: usize) -> Vec<u16>;
+}
+
+/// What the call is asked with: the fields, the mosaic, the three planes and the length of the work buffer.
+#[derive(Clone)]
+pub struct Ask<C> {
+    pub fields: Fields,
+    pub mosaic: Vec<u16>,
+    pub planes: Planes,
+    pub work: usize,
+    pub call: PhantomData<C>,
+}
+
+/// The buffers of a call, with the places beside them.
+struct Handed {
+    mosaic: Buffer<u16>,
+    planes: [Buffer<u16>; 3],
+    work: Buffer<i32>,
+}
+
+impl<C: PlanesCall> Ask<C> {
+    /// With this mosaic and these planes, and a work buffer as long as it has to be.
+    pub fn of(fields: Fields, mosaic: &[u16], planes: Planes) -> Ask<C> {
+        let work = 8 * fields.width * fields.height;
+        Ask { fields, mosaic: mosaic.to_vec(), planes, work, call: PhantomData }
+    }
+
+    /// The answer, and the buffers after the call.
+    fn asked(&self, call: Call) -> (Result<(), u32>, Handed) {
+        let mosaic = Buffer::given(&self.mosaic);
+        let mut planes = self.planes.each_ref().map(|plane| Buffer::given(plane));
+        let mut work = Buffer::lent(self.work);
+        let lent = planes.each_mut().map(|plane| plane.inside_mut());
+        let answer = call(&self.fields, mosaic.inside(), lent, work.inside_mut());
+        (answer, Handed { mosaic, planes, work })
+    }
+
+    /// Asks the library and the reference alike, compares the answers and the buffers, and hands back the library's number
+    /// and planes.
+    pub fn compared(&self, kind: &str) -> (u32, Planes) {
+        let what = format!("{} of {:?}, {kind}", C::NAME, self.fields);
+        let (answer, Handed { mosaic, planes, work }) = self.asked(C::LIBRARY);
+        let (due_answer, due) = self.asked(C::REFERENCE);
+        assert_eq!(answer, due_answer, "{what}");
+        mosaic.assert_holds(&self.mosaic, &format!("{what}: mosaic"));
+        for k in 0..3 {
+            let what = format!("{what}: {}", COLOURS[k]);
+            planes[k].assert_holds(due.planes[k].inside(), &what);
+            if answer.is_err() {
+                planes[k].assert_holds(&self.planes[k], &format!("{what}, refused"));
+            }
+        }
+        work.assert_holds(due.work.inside(), &format!("{what}: work buffer"));
+        if answer.is_err() {
+            work.assert_untouched(&format!("{what}: work buffer, refused"));
+        }
+        (answer.err().unwrap_or(0), planes.map(|plane| plane.inside().to_vec()))
+    }
+
+    /// The library's planes after an accepted call.
+    pub fn accepted(&self, kind: &str) -> Planes {
+        let (number, planes) = self.compared(kind);
+        assert_eq!(number, 0, "{} of {:?}, {kind}", C::NAME, self.fields);
+        planes
+    }
+}
+
+/// Rounds and thresholds: few rounds with every threshold, and the most rounds with a threshold by chance.
+pub fn settings(chance: &mut Chance) -> Vec<(u8, u16)> {
+    let thresholds = [0, 1, 20, 300, 4095];
+    let few = [0, 1, 2, 3, 8].into_iter().flat_map(|rounds| thresholds.map(|threshold| (rounds, threshold)));
+    few.chain([(64, chance.one_of(&thresholds))]).collect()
+}
+
+/// Questions 4 and 5, each answered no alone; and the ends of their ranges.
+pub fn settings_refused<C: PlanesCall>(chance: &mut Chance, counts: &mut Counts) {
+    for rounds in 0..=255 {
+        let mut ask = Ask::<C>::sound(chance, 5, 4);
+        ask.fields.rounds = rounds;
+        answered(&ask, if rounds <= 64 { 0 } else { 4 }, "every number of rounds", counts);
+    }
+    let out_of_range = [4096, 4097, 4100, 8191, 8192, 32_767, 32_768, 36_863, 61_440, 65_535];
+    for (width, height) in SHAPES {
+        for threshold in [0, 1, 2, 20, 255, 256, 2047, 2048, 4094, 4095].into_iter().chain(out_of_range) {
+            let mut ask = Ask::<C>::sound(chance, width, height);
+            ask.fields.threshold = threshold;
+            answered(&ask, if threshold <= 4095 { 0 } else { 5 }, "a threshold", counts);
+        }
+    }
+}
+
+/// Questions 6, 7 and 8, each answered no alone: of each buffer, and of two planes whose lengths together would be right.
+/// Then work buffers that suffice.
+pub fn lengths_refused<C: PlanesCall>(chance: &mut Chance, counts: &mut Counts) {
+    for (width, height) in SHAPES {
+        let count = width * height;
+        let sound = Ask::<C>::sound(chance, width, height);
+        for length in wrong_lengths(width, height) {
+            let ask = Ask { mosaic: chance.samples(length), ..sound.clone() };
+            answered(&ask, 6, "the mosaic's length", counts);
+            for plane in 0..3 {
+                let mut ask = sound.clone();
+                ask.planes[plane] = C::plane(chance, length);
+                answered(&ask, 7, "a plane's length", counts);
+                ask.planes[(plane + 1) % 3] = C::plane(chance, (2 * count).saturating_sub(length));
+                answered(&ask, 7, "two planes' lengths", counts);
+            }
+            let planes = [(); 3].map(|_| C::plane(chance, length));
+            answered(&Ask { planes, ..sound.clone() }, 7, "the three planes' lengths", counts);
+        }
+        for work in short_work(count) {
+            answered(&Ask { work, ..sound.clone() }, 8, &format!("a work buffer of {work}"), counts);
+        }
+        for rounds in [0, 1, 2] {
+            let sound = Ask { fields: Fields { rounds, ..sound.fields }, ..sound.clone() };
+            for work in sufficient_work(count) {
+                answered(&Ask { work, ..sound.clone() }, 0, &format!("a work buffer of {work}"), counts);
+            }
+        }
+    }
+}
+
+/// Question 9 alone, at every place: 4,095 is in range, more is not.
+pub fn samples_refused<C: PlanesCall>(chance: &mut Chance, counts: &mut Counts) {
+    for (width, height) in SHAPES {
+        let sound = Ask::<C>::sound(chance, width, height);
+        for (place, (value, in_range)) in (0..width * height).flat_map(|k| TRIES.map(|tried| (k, tried))) {
+            let mut ask = sound.clone();
+            ask.mosaic[place] = value;
+            let number = if in_range { 0 } else { 9 };
+            answered(&ask, number, &format!("mosaic, {value} at place {place}"), counts);
+        }
+        for value in NO_SAMPLE {
+            let mosaic = vec![value; width * height];
+            answered(&Ask { mosaic, ..sound.clone() }, 9, "no sample in range", counts);
+        }
+    }
+}
+
+/// The largest frame, white in the mosaic and in the planes.
+pub fn largest<C: PlanesCall>() -> Ask<C> {
+    let fields = Fields { width: 2048, height: 2048, layout: 0, rounds: 1, threshold: 0 };
+    let white = vec![4095; LARGEST];
+    Ask::of(fields, &white, [(); 3].map(|_| white.clone()))
+}
+
+/// Questions 8 and 9 in the largest frames.
+pub fn large_frames_refused<C: PlanesCall>(counts: &mut Counts) {
+    let mut ask = largest::<C>();
+    for (place, value) in TRIES_IN_THE_LARGEST {
+        ask.mosaic[place] = value;
+        answered(&ask, 9, &format!("mosaic, {value} at place {place}"), counts);
+        ask.mosaic[place] = 4095;
+    }
+    answered(&Ask { work: 8 * LARGEST - 1, ..ask }, 8, "a work buffer of one less", counts);
+}
+
+impl<C: PlanesCall> FrameCall for Ask<C> {
+    const NAME: &'static str = C::NAME;
+    const QUESTIONS: &'static [u32] = C::QUESTIONS;
+
+    fn sound(chance: &mut Chance, width: usize, height: usize) -> Self {
+        let rounds = chance.between(0, 3) as u8;
+        let fields = Fields { rounds, ..chance.few_rounds(width, height) };
+        let mosaic = chance.samples(width * height);
+        Ask::of(fields, &mosaic, [(); 3].map(|_| C::plane(chance, width * height)))
+    }
+
+    fn wrong(chance: &mut Chance, questions: &[u32]) -> Self {
+        let (width, height) = (chance.between(2, 9) as usize, chance.between(2, 9) as usize);
+        let count = width * height;
+        let mut ask = Ask::<C>::sound(chance, width, height);
+        for question in questions {
+            let length = chance.one_of(&[count - 1, count + 1, 100]);
+            let no_sample = chance.one_of(&NO_SAMPLE);
+            let plane = chance.place(3);
+            match question {
+                1 => ask.fields.width = chance.one_of(&NO_LENGTH),
+                2 => ask.fields.height = chance.one_of(&NO_LENGTH),
+                3 => ask.fields.layout = chance.between(4, 255) as u8,
+                4 => ask.fields.rounds = chance.between(65, 255) as u8,
+                5 => ask.fields.threshold = chance.between(4096, 65_535) as u16,
+                6 => ask.mosaic = chance.samples(length),
+                7 => ask.planes[plane] = C::plane(chance, length),
+                8 => ask.work = chance.one_of(&[0, count, 8 * count - 1]),
+                9 => *chance.one_in(&mut ask.mosaic) = no_sample,
+                _ => *chance.one_in(&mut ask.planes[plane]) = no_sample,
+            }
+        }
+        ask
+    }
+
+    fn told(self, width: usize, height: usize, layout: u8) -> Self {
+        Ask { fields: Fields { width, height, layout, ..self.fields }, ..self }
+    }
+
+    fn layout(&self) -> u8 {
+        self.fields.layout
+    }
+
+    fn number(&self, kind: &str) -> u32 {
+        self.compared(kind).0
+    }
+}
