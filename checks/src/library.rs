@@ -1,4 +1,4 @@
-//! The C calls of the filter bank, of the first estimates, of the green update and of the rounds.
+//! The C calls of the filter bank, the first estimates, the green update, the rounds, finishing and the tally.
 //!
 //! This is no module of the crate: what links the crate would then need the static library. The tests of these calls and the
 //! benchmark take the file in by its path.
@@ -6,6 +6,7 @@
 // a test makes its own calls only
 #![allow(dead_code)]
 
+use checks::finishing::Tally;
 use checks::packet::Fields;
 
 #[link(name = "demosaic_c", kind = "static")]
@@ -85,6 +86,30 @@ unsafe extern "C" {
         work: *mut i32,
         work_len: usize,
     ) -> u32;
+
+    fn demosaic_finish(
+        width: usize,
+        height: usize,
+        layout: u8,
+        rounds: u8,
+        threshold: u16,
+        mosaic: *const u16,
+        mosaic_len: usize,
+        red: *mut u16,
+        red_len: usize,
+        green: *mut u16,
+        green_len: usize,
+        blue: *mut u16,
+        blue_len: usize,
+        work: *mut i32,
+        work_len: usize,
+    ) -> u32;
+
+    safe fn demosaic_tally_finished(before: u32, number: u32) -> u32;
+
+    safe fn demosaic_tally_refused(before: u32, number: u32) -> u32;
+
+    safe fn demosaic_tally_rounds(before: u32, number: u32, rounds: u8) -> u32;
 }
 
 fn answer(number: u32) -> Result<(), u32> {
@@ -218,4 +243,37 @@ pub fn rounds(
             work.len(),
         )
     })
+}
+
+pub fn finish(fields: &Fields, mosaic: &[u16], planes: [&mut [u16]; 3], work: &mut [i32]) -> Result<(), u32> {
+    let [red, green, blue] = planes;
+    // as in the split
+    answer(unsafe {
+        demosaic_finish(
+            fields.width,
+            fields.height,
+            fields.layout,
+            fields.rounds,
+            fields.threshold,
+            mosaic.as_ptr(),
+            mosaic.len(),
+            red.as_mut_ptr(),
+            red.len(),
+            green.as_mut_ptr(),
+            green.len(),
+            blue.as_mut_ptr(),
+            blue.len(),
+            work.as_mut_ptr(),
+            work.len(),
+        )
+    })
+}
+
+/// The next tally, after a finishing call with so many rounds that answered this number.
+pub fn next_tally(before: Tally, number: u32, rounds: u8) -> Tally {
+    Tally {
+        finished: demosaic_tally_finished(before.finished, number),
+        refused: demosaic_tally_refused(before.refused, number),
+        rounds: demosaic_tally_rounds(before.rounds, number, rounds),
+    }
 }

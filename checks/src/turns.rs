@@ -117,6 +117,25 @@ pub fn turn_samples(
     Ok((frame.width, frame.height, frame.layout))
 }
 
+/// A turning call of demand 3's list: the turn, and how long the second buffer is.
+pub type Turning = (u8, usize);
+
+/// What stands after a list of turning calls, and the turns of the accepted ones. Each call is given what the last accepted
+/// one before it left; a refused one changes nothing.
+pub fn after_list(frame: &Frame, list: &[Turning]) -> (Frame, Vec<u8>) {
+    let mut now = frame.clone();
+    let mut accepted = Vec::new();
+    for &(turn, length) in list {
+        let mut second = vec![0; length];
+        let answer = turn_samples(turn, now.width, now.height, now.layout, &now.samples, &mut second);
+        if let Ok((width, height, layout)) = answer {
+            now = Frame { width, height, layout, samples: second };
+            accepted.push(turn);
+        }
+    }
+    (now, accepted)
+}
+
 #[cfg(test)]
 mod tests {
     use super::*;
@@ -124,6 +143,15 @@ mod tests {
     #[test]
     fn one_then_four_is_six() {
         assert_eq!(then_another(1, 4), Ok(6));
+    }
+
+    #[test]
+    fn refused_turning_calls_change_nothing() {
+        let frame = Frame { width: 3, height: 2, layout: 1, samples: (0..6).collect() };
+        let list = [(8, 6), (1, 6), (2, 5), (255, 7), (4, 6), (3, 7), (0, 0)];
+        assert_eq!(after_list(&frame, &list), (frame.turned(6), vec![1, 4]));
+        assert_eq!(after_list(&frame, &[]), (frame.clone(), vec![]));
+        assert_eq!(after_list(&frame, &[(1, 4), (9, 6)]), (frame, vec![]));
     }
 
     /// The colour of a place, as document 01 tells it.

@@ -1,0 +1,116 @@
+//! The C calls of the tally count what the reference counts, and each count stops at 4,294,967,295.
+
+use checks::chance::Chance;
+use checks::finishing::{finish, Tally};
+use checks::packet::Fields;
+
+#[path = "../src/library.rs"]
+mod library;
+
+/// A finishing call: its number, and its rounds.
+type Finishing = (u32, u8);
+
+/// Accepted or refused by chance. Only an accepted call has 64 rounds or less for sure.
+fn random_call(chance: &mut Chance) -> Finishing {
+    let accepted = (0, chance.between(0, 64) as u8);
+    let refused = (chance.between(1, 17) as u32, chance.between(0, 255) as u8);
+    chance.one_of(&[accepted, accepted, refused])
+}
+
+/// The library's tally after one more call, which is the reference's.
+fn compared(before: Tally, (number, rounds): Finishing) -> Tally {
+    let found = library::next_tally(before, number, rounds);
+    assert_eq!(found, before.next(number, rounds), "{number} with {rounds} rounds after {before:?}");
+    found
+}
+
+/// Long lists from zero, empty and one-sided ones too.
+#[test]
+fn from_zero() {
+    let chance = &mut Chance(0x9e37_79b9_7f4a_7c15);
+    let mut histories = vec![vec![], vec![(0, 64); 5000], vec![(9, 64); 5000], vec![(0, 0); 5000]];
+    for length in (1..40).chain([1000, 30_000, 100_000]) {
+        histories.push((0..length).map(|_| random_call(chance)).collect());
+    }
+    for history in histories {
+        let tally = history.iter().fold(Tally::default(), |tally, &call| compared(tally, call));
+        assert_eq!(tally, Tally::of(&history), "{} calls", history.len());
+    }
+}
+
+/// Every call, where the counts lie near their ends or near an end of smaller numbers.
+#[test]
+fn at_borders() {
+    let borders = [0, 1 << 7, 1 << 8, 1 << 15, 1 << 16, 1 << 24, 1 << 31];
+    let near = |border: u32| (0..66).flat_map(move |k| [border.wrapping_sub(k), border.wrapping_add(k)]);
+    for count in borders.into_iter().flat_map(near) {
+        let before = Tally { finished: count, refused: count, rounds: count };
+        for rounds in 0..=64 {
+            compared(before, (0, rounds));
+        }
+        for number in 1..=17 {
+            compared(before, (number, 64));
+        }
+    }
+}
+
+/// Lists that begin shortly before a count's end: it stops there, while the others go on.
+#[test]
+fn each_count_stops() {
+    let chance = &mut Chance(0x2545_f491_4f6c_dd1d);
+    for ending in 0..8 {
+        let near = |k: u32| if ending >> k & 1 == 1 { u32::MAX - 500 } else { 3 };
+        let mut tally = Tally { finished: near(0), refused: near(1), rounds: near(2) };
+        for _ in 0..3000 {
+            let next = compared(tally, random_call(chance));
+            assert!(
+                next.finished >= tally.finished
+                    && next.refused >= tally.refused
+                    && next.rounds >= tally.rounds
+            );
+            tally = next;
+        }
+        let counts = [tally.finished, tally.refused, tally.rounds];
+        for (k, count) in (0..).zip(counts) {
+            assert_eq!(count == u32::MAX, ending >> k & 1 == 1, "{counts:?}");
+        }
+    }
+}
+
+/// From zero, 64 rounds a frame: the count of rounds reaches its end with the frame 67,108,864, which would make it 0.
+#[test]
+fn the_rounds_stop_from_zero() {
+    let mut tally = Tally::default();
+    for _ in 0..67_108_863 {
+        tally = library::next_tally(tally, 0, 64);
+    }
+    assert_eq!(tally, Tally { finished: 67_108_863, refused: 0, rounds: u32::MAX - 63 });
+    for more in 1..=100 {
+        tally = library::next_tally(tally, 0, 64);
+        assert_eq!(tally, Tally { finished: 67_108_863 + more, refused: 0, rounds: u32::MAX });
+    }
+}
+
+/// The tally of finishing calls, by what the library answers, is the count of what the reference answers.
+#[test]
+fn of_finishing_calls() {
+    let chance = &mut Chance(0x0123_4567_89ab_cdef);
+    let mut tally = Tally::default();
+    let mut history = Vec::new();
+    for _ in 0..500 {
+        let fields = chance.small_fields();
+        let rounds = chance.one_of(&[0, 1, 5, 64, 65]);
+        let fields = Fields { rounds, ..fields };
+        let mut mosaic = chance.samples(fields.width * fields.height);
+        *chance.one_in(&mut mosaic) = chance.one_of(&[0, 4095, 4095, 4096]);
+        let [number, due] = [library::finish, finish].map(|call| {
+            let mut planes = [(); 3].map(|_| vec![0; mosaic.len()]);
+            let lent = planes.each_mut().map(|plane| &mut plane[..]);
+            call(&fields, &mosaic, lent, &mut vec![0; 8 * mosaic.len()]).err().unwrap_or(0)
+        });
+        tally = library::next_tally(tally, number, rounds);
+        history.push((due, rounds));
+    }
+    assert_eq!(tally, Tally::of(&history));
+    assert!(tally.finished >= 100 && tally.refused >= 100, "{tally:?}");
+}
