@@ -1,10 +1,10 @@
--- `turned_finishing::alike::finish_standing` meets its contract.
+-- `finishing_examples::alike::finish_standing` meets its contract.
 -- Assumes nothing.
 use denote.Ref.{now}
-use Rattle.turned_finishing.proofs.Moving.{finished-standing}
+use Rattle.finishing_examples.proofs.Moving.{finished-standing}
 use borrow.Author.Needs.{needs}
-use Rattle.turned_finishing.proofs.alike.finish_standing.Statement.{statement}
-use Rattle.turned_finishing.proofs.alike.finish_standing.Tie as tie
+use Rattle.finishing_examples.proofs.alike.finish_standing.Statement.{statement}
+use Rattle.finishing_examples.proofs.alike.finish_standing.Tie as tie
 
 finish-number-requires : tie.Need-finish-number-requires
 finish-number-requires c κs = search needs

@@ -13,7 +13,7 @@ use Rattle.turns.specs.Turning.{frame-questions, number-of-frame, accepted-as, 
 use Rattle.turns.specs.declared.TurnedFrame.{TurnedFrame}
 use Rattle.turns.specs.declared.TurnedFrame.the-variants.{Accepted, Refused}
 use Rattle.finishing.specs.Turnings.{TurnRun, left-by, TurnHistory, standing, if-turned, accepted-turns}
-use Rattle.turned_finishing.specs.Between.{Between, between, turn-questions, turned-once, turned-all, turns-taken}
+use Rattle.finishing_examples.specs.Between.{Between, between, turn-questions, turned-once, turned-all, turns-taken}
 
 -- ---- a turning call
 -- its answer, by the number of the first question answered no

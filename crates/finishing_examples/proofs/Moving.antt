@@ -18,11 +18,11 @@ use Rattle.finishing.specs.Tally.{zero-tally}
 use Rattle.finishing.specs.Calls.{finish-call, FinishNumber}
 use Rattle.finishing.specs.Turnings.{turned-planes, standing, accepted-turns}
 use Rattle.finishing.proofs.Demand3.{leaves-turned, finished-alike}
-use Rattle.turned_finishing.specs.Between.{Between, between, first-holds, second-holds, turn-questions, turned-once, turned-all, turns-taken}
-use Rattle.turned_finishing.specs.Alike.{stands, Moved, lent, Lent, FinishedAlike}
-use Rattle.turned_finishing.specs.declared.alike.Standing.{Standing}
-use Rattle.turned_finishing.specs.declared.alike.Numbers.{Numbers}
-use Rattle.turned_finishing.proofs.Histories.{runs-of, history-of, standing-of, taken-of}
+use Rattle.finishing_examples.specs.Between.{Between, between, first-holds, second-holds, turn-questions, turned-once, turned-all, turns-taken}
+use Rattle.finishing_examples.specs.Alike.{stands, Moved, lent, Lent, FinishedAlike}
+use Rattle.finishing_examples.specs.declared.alike.Standing.{Standing}
+use Rattle.finishing_examples.specs.declared.alike.Numbers.{Numbers}
+use Rattle.finishing_examples.proofs.Histories.{runs-of, history-of, standing-of, taken-of}
 
 abbrev standing-at : ℕ → ℕ → ℕ → Bool → Standing
 standing-at w h l swapped = record { width = w; height = h; layout = l; swapped = swapped }

@@ -1,12 +1,12 @@
--- `turned_finishing::alike::finish_turned` meets its contract: demand 3, with the turning calls that ran.
+-- `finishing_examples::alike::finish_turned` meets its contract: demand 3, with the turning calls that ran.
 -- Assumes nothing.
 use denote.Ref.{now}
 use Rattle.turns.specs.Frames.{frame, planes}
-use Rattle.turned_finishing.specs.Alike.{lent}
-use Rattle.turned_finishing.proofs.Moving.{run-alike}
+use Rattle.finishing_examples.specs.Alike.{lent}
+use Rattle.finishing_examples.proofs.Moving.{run-alike}
 use borrow.Author.Needs.{needs}
-use Rattle.turned_finishing.proofs.alike.finish_turned.Statement.{statement}
-use Rattle.turned_finishing.proofs.alike.finish_turned.Tie as tie
+use Rattle.finishing_examples.proofs.alike.finish_turned.Statement.{statement}
+use Rattle.finishing_examples.proofs.alike.finish_turned.Tie as tie
 
 finish-number-requires : tie.Need-finish-number-requires
 finish-number-requires c κs = search needs

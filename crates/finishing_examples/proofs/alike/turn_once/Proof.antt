@@ -1,10 +1,10 @@
--- `turned_finishing::alike::turn_once` meets its contract.
+-- `finishing_examples::alike::turn_once` meets its contract.
 -- Assumes nothing.
 use denote.Ref.{now}
-use Rattle.turned_finishing.proofs.Moving.{once-second, once-first}
+use Rattle.finishing_examples.proofs.Moving.{once-second, once-first}
 use borrow.Author.Needs.{needs}
-use Rattle.turned_finishing.proofs.alike.turn_once.Statement.{statement}
-use Rattle.turned_finishing.proofs.alike.turn_once.Tie as tie
+use Rattle.finishing_examples.proofs.alike.turn_once.Statement.{statement}
+use Rattle.finishing_examples.proofs.alike.turn_once.Tie as tie
 
 turn-between-requires : tie.Need-turn-between-requires
 turn-between-requires c κs = search needs

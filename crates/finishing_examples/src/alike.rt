@@ -8,8 +8,8 @@ ghost use lib.ListN.{length};
 ghost use Rattle.turns.specs.Frames.{frame, planes};
 ghost use Rattle.finishing.specs.Tally.{zero-tally};
 ghost use Rattle.finishing.specs.Calls.{finish-call, FinishNumber};
-ghost use Rattle.turned_finishing.specs.Between.{turned-once, turned-all};
-ghost use Rattle.turned_finishing.specs.Alike.{stands, Moved, lent, FinishedAlike};
+ghost use Rattle.finishing_examples.specs.Between.{turned-once, turned-all};
+ghost use Rattle.finishing_examples.specs.Alike.{stands, Moved, lent, FinishedAlike};
 
 // Where the frame stands: its width, height and layout, and whether the second mosaic holds its samples.
 pub(crate) struct Standing {
