@@ -1,0 +1,99 @@
+-- What is printed is the program's text: of an accepted input the mosaic is read, the frame is finished, and its planes make the page.
+-- Assumes nothing.
+use Prim.Native.Nat.{ℕ, _*_, _≤_}
+use mathlib.Core.Path.{_≡_, refl, sym, ap, _∙_, subst}
+use mathlib.Core.List.{List}
+use native.Mathlib.Omega.{arith}
+use lib.IntN.{ℤ}
+use lib.ListN.{length}
+use lib.Seq.{length-sets}
+use borrow.Author.Tests.{eq-eqb, le-leb}
+use Rattle.questions.specs.Questions.{Question, ceiling, ask}
+use Rattle.questions.proofs.Asking.{all-yes-both, ask-zero}
+use Rattle.questions.proofs.Answering.{left-no, left-yes}
+use Rattle.turns.specs.Frames.{Planes, lengths}
+use Rattle.packet.specs.Packet.{fields-of, samples-of}
+use Rattle.packet.specs.Calls.{fields-questions, store-questions, filling-questions, mosaic-questions, MosaicResult}
+use Rattle.packet.specs.declared.Fields.{Fields}
+use Rattle.packet.specs.declared.ReadPacket.{ReadPacket}
+use Rattle.packet.specs.declared.ReadPacket.the-variants.{Sound, Refused}
+use Rattle.packet.proofs.Stores.{SoundPacket}
+use Rattle.finishing.specs.Finishing.{finish-lists}
+use Rattle.finishing.specs.Calls.{finish-call, buffer-questions, finish-questions, FinishResult}
+use Rattle.finishing.specs.declared.Tally.{Tally}
+use Rattle.finishing.specs.declared.FinishAnswer.{FinishAnswer}
+use Rattle.printing.specs.Text.{page, refusal, Written}
+use Rattle.program.specs.Program.{program-questions, packet-frame, finished-page, program-text, InputResult, Rooms}
+use Rattle.program.proofs.Inputs.{refused-number, sound-fields, sound-input, Finishable, finishable}
+
+-- ---- the program's text, by what reading the input answered
+module _ (s : List ℕ) {r : ReadPacket} (e : InputResult s r) {out after : List ℕ} {count : ℕ} where
+  pub text-no : (n : ℕ) → r ≡ Refused n → Written (refusal n) out count after → Written (program-text s) out count after
+  text-no n p w = subst (λ (text : List ℕ). Written text out count after) same w
+    where
+      k : (n ≡ ask (program-questions s)) × (n ≡ 0 → ⊥)
+      k = refused-number e n p
+
+      same : refusal n ≡ program-text s
+      same = unfold program-text in
+          ap refusal (k .0) ∙ left-no (program-questions s) (finished-page (fields-of s) (samples-of s)) (refusal (ask (program-questions s))) n (k .0) (k .1)
+
+  pub text-yes : (f : Fields) → r ≡ Sound f → Written (finished-page f (samples-of s)) out count after → Written (program-text s) out count after
+  text-yes f p w = subst (λ (text : List ℕ). Written text out count after) same w
+    where
+      k : (ask (program-questions s) ≡ 0) × (f ≡ fields-of s)
+      k = sound-fields e f p
+
+      same : finished-page f (samples-of s) ≡ program-text s
+      same = unfold program-text in
+          ap (λ (g : Fields). finished-page g (samples-of s)) (k .1)
+          ∙ left-yes (program-questions s) (finished-page (fields-of s) (samples-of s)) (refusal (ask (program-questions s))) 0 (sym (k .0)) refl
+
+-- the bytes written lie within the buffer
+pub written-within : {text before after : List ℕ} {count : ℕ} → Written text before count after → count ≤ length after
+written-within {text} {before} w = omega (arith, w .fit, ap length (w .buffer), length-sets before 0 text)
+
+-- ---- an accepted input
+-- its mosaic is filled
+mosaic-filled : (s : List ℕ) → SoundPacket s → {mosaic filled : List ℕ} {r : ReadPacket} → length mosaic ≡ fields-of s .width * fields-of s .height
+    → MosaicResult s mosaic r filled → filled ≡ samples-of s
+mosaic-filled s k {mosaic} fit m = m .buffer ∙ sym (left-yes (mosaic-questions s (length mosaic)) (samples-of s) mosaic 0 (sym accepted) refl)
+  where
+    accepted : ask (mosaic-questions s (length mosaic)) ≡ 0
+    accepted =
+        ask-zero (mosaic-questions s (length mosaic))
+        (all-yes-both (store-questions s) (filling-questions (fields-of s) (samples-of s) (length mosaic)) (k .at .answers) (eq-eqb _ _ fit, (k .small, tt)))
+
+-- its planes are finished
+planes-finished : (f : Fields) (samples : List ℕ) → Finishable f samples
+    → {tally : Tally} {mosaic out : List ℕ} {before after : Planes (List ℕ)} {work work-after : List ℤ} {r : FinishAnswer} → Rooms (f .width * f .height) mosaic before work out
+    → FinishResult (finish-call (packet-frame f samples) (f .rounds) (f .threshold) tally before work) r after work-after
+    → after ≡ finish-lists ceiling (f .rounds) (f .threshold) (packet-frame f samples)
+planes-finished f samples k {before = before} {work = work} room m = m .three-planes ∙ sym (left-yes qs _ before 0 (sym accepted) refl)
+  where
+    qs : List Question
+    qs = finish-questions (packet-frame f samples) (f .rounds) (f .threshold) (lengths before) (length work)
+
+    accepted : ask qs ≡ 0
+    accepted =
+        ask-zero qs
+        (all-yes-both (fields-questions f) (buffer-questions (f .width * f .height) samples (lengths before) (length work)) (k .fields .answers)
+        (eq-eqb _ _ (k .long), (eq-eqb _ _ (room .red-room), (eq-eqb _ _ (room .green-room), (eq-eqb _ _ (room .blue-room), (le-leb _ _ (room .work-room), (k .small, tt)))))))
+
+-- and they are printed
+pub page-printed : (s : List ℕ) → ask (program-questions s) ≡ 0 → (f : Fields) → f ≡ fields-of s
+    → {mosaic filled out out-after : List ℕ} {before after : Planes (List ℕ)} {work work-after : List ℤ} {r : ReadPacket} {tally : Tally} {q : FinishAnswer} {count : ℕ}
+    → Rooms (f .width * f .height) mosaic before work out → MosaicResult s mosaic r filled
+    → FinishResult (finish-call (packet-frame f filled) (f .rounds) (f .threshold) tally before work) q after work-after
+    → Written (page (f .width) (f .height) after) out count out-after → Written (finished-page f (samples-of s)) out count out-after
+page-printed s a f e {filled = filled} {out} {out-after} {before} {after} {work} {work-after} {tally = tally} {q} {count} room m n w =
+    subst (λ (text : List ℕ). Written text out count out-after) text w
+  where
+    same : filled ≡ samples-of s
+    same = mosaic-filled s (sound-input s a) (room .mosaic-room ∙ ap (λ (g : Fields). g .width * g .height) e) m
+
+    finished : FinishResult (finish-call (packet-frame f (samples-of s)) (f .rounds) (f .threshold) tally before work) q after work-after
+    finished = subst (λ (x : List ℕ). FinishResult (finish-call (packet-frame f x) (f .rounds) (f .threshold) tally before work) q after work-after) same n
+
+    text : page (f .width) (f .height) after ≡ finished-page f (samples-of s)
+    text = unfold finished-page in ap (page (f .width) (f .height)) (planes-finished f (samples-of s) (finishable s a f e) room finished)

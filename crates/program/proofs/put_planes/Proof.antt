@@ -1,0 +1,70 @@
+-- `program::put_planes` meets its contract: the mosaic, the planes, the page.
+-- Assumes nothing.
+use native.Mathlib.Omega.{arith}
+use denote.Ref.{now}
+use Rattle.program.proofs.Inputs.{finishable}
+use Rattle.program.proofs.Pages.{page-printed}
+use borrow.Author.Needs.{needs}
+use Rattle.program.proofs.put_planes.Statement.{statement}
+use Rattle.program.proofs.put_planes.Tie as tie
+
+read-mosaic-requires : tie.Need-read-mosaic-requires
+read-mosaic-requires c κs = search needs
+
+zero-requires : tie.Need-zero-requires
+zero-requires c κs = search needs
+
+finish-requires : tie.Need-finish-requires
+finish-requires c κs = search needs
+
+put-page-requires : tie.Need-put-page-requires
+put-page-requires c κs =
+    let finished = c .before .before .before .before .before .before .before .before .before .before .before in
+    let filled = finished .before .before .before .before .before .before .before .before .before in
+    let s = filled .before .before .before .before .before .before .before .before in
+    let k = finishable (now (s .args .input)) (s .pre .0) (s .args .f) (s .pre .1 .0) in
+    let kept = finished .finish .kept .1 .1 .1 .1 .1 .1 in
+    let room = s .pre .1 .1 in
+    (omega (arith, k .fields .shape .width-from), omega (arith, room .page-room, room .red-room, room .green-room, room .blue-room, kept .0, kept .1 .0, kept .1 .1 .0))
+
+same-length : tie.Need-same-length
+same-length c = search needs
+
+same-length-2 : tie.Need-same-length-2
+same-length-2 c = search needs
+
+same-length-3 : tie.Need-same-length-3
+same-length-3 c = search needs
+
+same-length-4 : tie.Need-same-length-4
+same-length-4 c = search needs
+
+same-length-5 : tie.Need-same-length-5
+same-length-5 c = search needs
+
+same-length-6 : tie.Need-same-length-6
+same-length-6 c = search needs
+
+returns : tie.Need-returns
+returns c =
+    let printed = c .before .before in
+    let finished = printed .before .before .before .before .before .before .before .before .before .before .before .before in
+    let filled = finished .before .before .before .before .before .before .before .before .before in
+    let s = filled .before .before .before .before .before .before .before .before in
+    page-printed (now (s .args .input)) (s .pre .0) (s .args .f) (s .pre .1 .0) (s .pre .1 .1) (filled .read-mosaic .ensures) (finished .finish .ensures) (printed .put-page .ensures)
+
+pub put-planes-spec : {M : Type 1} → statement M
+put-planes-spec =
+    tie.close
+    (tie.spec
+    read-mosaic-requires
+    zero-requires
+    finish-requires
+    put-page-requires
+    same-length
+    same-length-2
+    same-length-3
+    same-length-4
+    same-length-5
+    same-length-6
+    returns)

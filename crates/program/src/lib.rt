@@ -1,0 +1,108 @@
+// Document 01's program, on bytes: the number that it refuses its input by, and the text that it prints.
+use finishing::Tally;
+use packet::Fields;
+use packet::ReadPacket;
+ghost use mathlib.Core.Path.{_≡_};
+ghost use Prim.Native.Nat.{_*_};
+ghost use Rattle.questions.specs.Questions.{ask};
+ghost use Rattle.turns.specs.Frames.{planes};
+ghost use Rattle.packet.specs.Packet.{fields-of, samples-of};
+ghost use Rattle.printing.specs.Text.{Written};
+ghost use Rattle.program.specs.Program.{program-questions, finished-page, program-text, InputResult, Rooms};
+
+// The reader's answer, refused by 17 too: first of more than 4,096 bytes, after the reader of more than 1,024 samples.
+fn read_input(input: &[u8]) -> ReadPacket
+    ensures { λ r. ⌜ InputResult (now (input .entry)) r ⌝ }
+{
+    if 4096 < input.len() {
+        return ReadPacket::Refused(17);
+    }
+    let read = packet::read_packet(input);
+    let ReadPacket::Sound(f) = read else {
+        return read;
+    };
+    if 1024 < f.width * f.height {
+        return ReadPacket::Refused(17);
+    }
+    read
+}
+
+// The number of the program's refusal, 0 for an input that it finishes: questions 17, the reader's, 17.
+pub fn program_refusal(input: &[u8]) -> u32
+    ensures { λ r. ⌜ r ≡ ask (program-questions (now (input .entry))) ⌝ }
+{
+    let read = read_input(input);
+    match read {
+        ReadPacket::Sound(_) => 0,
+        ReadPacket::Refused(number) => number,
+    }
+}
+
+// The finished planes of an accepted input, printed. Reader and finishing call then accept.
+fn put_planes(
+    input: &[u8],
+    f: Fields,
+    mosaic: &mut [u16],
+    red: &mut [u16],
+    green: &mut [u16],
+    blue: &mut [u16],
+    work: &mut [i32],
+    out: &mut [u8],
+) -> usize
+    requires { ⌜ ask (program-questions (now input)) ≡ 0 ⌝ }
+    requires { ⌜ f ≡ fields-of (now input) ⌝ }
+    requires { ⌜ Rooms (f .width * f .height) (now mosaic) (planes (now red) (now green) (now blue)) (now work) (now out) ⌝ }
+    ensures { λ r. ⌜ Written (finished-page f (samples-of (now (input .entry)))) (now (out .entry)) r (now (out .exit)) ⌝ }
+{
+    packet::read_mosaic(input, mosaic);
+    finishing::finish(
+        f.width,
+        f.height,
+        f.layout,
+        f.rounds,
+        f.threshold,
+        mosaic,
+        red,
+        green,
+        blue,
+        work,
+        Tally::zero(),
+    );
+    printing::put_page(out, f.width, f.height, red, green, blue)
+}
+
+// The same, with buffers of its own, of which it lends as much as the frame has samples.
+fn put_finished(input: &[u8], f: Fields, out: &mut [u8; 19456]) -> usize
+    requires { ⌜ ask (program-questions (now input)) ≡ 0 ⌝ }
+    requires { ⌜ f ≡ fields-of (now input) ⌝ }
+    ensures { λ r. ⌜ Written (finished-page f (samples-of (now (input .entry)))) (now (out .entry)) r (now (out .exit)) ⌝ }
+{
+    let count = f.width * f.height;
+    let mut mosaic = [0u16; 1024];
+    let mut red = [0u16; 1024];
+    let mut green = [0u16; 1024];
+    let mut blue = [0u16; 1024];
+    let mut work = [0i32; 8192];
+    put_planes(
+        input,
+        f,
+        &mut mosaic[0..count],
+        &mut red[0..count],
+        &mut green[0..count],
+        &mut blue[0..count],
+        &mut work,
+        out,
+    )
+}
+
+// The program's text, at the front of `out`; how many bytes. The rest of `out` stays. The page of three planes of 1,024 samples takes
+// at most 12 + 6·3·1,024 bytes, so that 19·1,024 are enough.
+pub fn program_text(input: &[u8], out: &mut [u8; 19456]) -> usize
+    ensures { λ r. ⌜ Written (program-text (now (input .entry))) (now (out .entry)) r (now (out .exit)) ⌝ }
+{
+    let read = read_input(input);
+    match read {
+        ReadPacket::Sound(f) => put_finished(input, f, out),
+        ReadPacket::Refused(number) => printing::put_refusal(out, number),
+    }
+}
