@@ -1,14 +1,15 @@
 -- What the program's questions say of its input, and what reading it shows at its returns. Assumes nothing.
-use Prim.Native.Nat.{ℕ, _*_, _≤_}
+use Prim.Native.Nat.{ℕ, _*_, _≤_, _<_}
 use mathlib.Core.Path.{_≡_, refl, sym, ap, _∙_, subst}
 use mathlib.Core.Bool.{true}
 use mathlib.Core.List.{List, [], _∷_}
 use native.Mathlib.Omega.{arith}
+use lib.Dec.{leb}
 use lib.ListN.{length}
-use borrow.Author.Tests.{le-leb, leb-true}
+use borrow.Author.Tests.{le-leb, lt-leb, leb-true}
 use Rattle.questions.specs.Questions.{Question, ceiling, ask, all-at-most}
 use Rattle.questions.specs.Answers.{Answered}
-use Rattle.questions.proofs.Asking.{AllYes, all-yes, all-yes-split, ask-yes, ask-first, ask-later}
+use Rattle.questions.proofs.Asking.{AllYes, all-yes, all-yes-split, ask-end, ask-no, ask-yes, ask-first, ask-later}
 use Rattle.questions.proofs.Answering.{answer-no, answer-yes}
 use Rattle.little_endian.proofs.Samples.{length-samples-in}
 use Rattle.packet.specs.Packet.{fields-of, sample-part, samples-of}
@@ -34,8 +35,11 @@ module _ {qs : List Question} {f : Fields} {r : ReadPacket} (e : Answered number
       none = sym (e .number) ∙ ap number-of-read p
 
 -- ---- at the returns
-pub input-no : (s : List ℕ) (n : ℕ) → n ≡ ask (program-questions s) → (n ≡ 0 → ⊥) → InputResult s (Refused n)
+input-no : (s : List ℕ) (n : ℕ) → n ≡ ask (program-questions s) → (n ≡ 0 → ⊥) → InputResult s (Refused n)
 input-no s n e z = answer-no number-of-read (program-questions s) _ (Refused n) e z
+
+pub input-long : (s : List ℕ) → 4096 < length s → InputResult s (Refused 17)
+input-long s h = input-no s 17 (ask-no (leb (length s) 4096) 17 _ (lt-leb (length s) 4096 h)) (λ z. omega arith)
 
 module _ (s : List ℕ) (short : length s ≤ 4096) {r : ReadPacket} (e : ReadResult s r) where
   -- the reader refused
@@ -45,8 +49,11 @@ module _ (s : List ℕ) (short : length s ≤ 4096) {r : ReadPacket} (e : ReadRe
       subst (λ (x : ReadPacket). InputResult s x) (sym p)
       (input-no s n (ask-yes _ n 17 _ (le-leb (length s) 4096 short) (ask-first (read-questions s) _ n (k .0) (k .1))) (k .1))
 
-  -- the reader accepted, so that 17 of the samples is left
+  -- the reader accepted
   module _ (f : Fields) (p : r ≡ Sound f) where
+    abbrev count : ℕ
+    count = f .width * f .height
+
     fields : f ≡ fields-of s
     fields = sound-fields e f p .1
 
@@ -56,13 +63,19 @@ module _ (s : List ℕ) (short : length s ≤ 4096) {r : ReadPacket} (e : ReadRe
     pub input-allowed : Allowed f
     input-allowed = subst (λ (g : Fields). Allowed g) (sym fields) (sound s 0 none refl .at .fields)
 
-    pub input-rest : (n : ℕ) → n ≡ ask (count-question f ∷ []) → n ≡ ask (program-questions s)
-    input-rest n q =
+    -- 17 of the samples is left
+    rest : (n : ℕ) → n ≡ ask (count-question f ∷ []) → n ≡ ask (program-questions s)
+    rest n q =
         ask-yes _ n 17 _ (le-leb (length s) 4096 short)
         (ask-later (read-questions s) _ n (all-yes (read-questions s) tt 0 none refl) (q ∙ ap (λ (g : Fields). ask (count-question g ∷ [])) fields))
 
-    pub input-yes : 0 ≡ ask (program-questions s) → InputResult s (Sound f)
-    input-yes q = answer-yes number-of-read (program-questions s) _ (Sound f) 0 q refl refl (ap (λ (g : Fields). Sound g) fields)
+    pub input-many : 1024 < count → InputResult s (Refused 17)
+    input-many h = input-no s 17 (rest 17 (ask-no (leb count 1024) 17 [] (lt-leb count 1024 h))) (λ z. omega arith)
+
+    pub input-sound : count ≤ 1024 → InputResult s (Sound f)
+    input-sound h =
+        answer-yes number-of-read (program-questions s) _ (Sound f) 0 (rest 0 (ask-yes (leb count 1024) 0 17 [] (le-leb count 1024 h) ask-end)) refl refl
+        (ap (λ (g : Fields). Sound g) fields)
 
 -- ---- an accepted input
 known : (s : List ℕ) → ask (program-questions s) ≡ 0 → AllYes (read-questions s) × AllYes (count-question (fields-of s) ∷ [])

@@ -1,4 +1,4 @@
-// Document 01's program, on bytes: the number that it refuses its input by, and the text that it prints.
+// Document 01's program, on bytes: the number of its refusal, and its text.
 use finishing::Tally;
 use packet::Fields;
 use packet::ReadPacket;
@@ -10,7 +10,7 @@ ghost use Rattle.packet.specs.Packet.{fields-of, samples-of};
 ghost use Rattle.printing.specs.Text.{Written};
 ghost use Rattle.program.specs.Program.{program-questions, finished-page, program-text, InputResult, Rooms};
 
-// The reader's answer, refused by 17 too: first of more than 4,096 bytes, after the reader of more than 1,024 samples.
+// The reader's answer. 17 refuses more than 4,096 bytes, before the reader, and more than 1,024 samples, after it.
 fn read_input(input: &[u8]) -> ReadPacket
     ensures { λ r. ⌜ InputResult (now (input .entry)) r ⌝ }
 {
@@ -27,7 +27,7 @@ fn read_input(input: &[u8]) -> ReadPacket
     read
 }
 
-// The number of the program's refusal, 0 for an input that it finishes: questions 17, the reader's, 17.
+// The number of the program's refusal, 0 for an accepted input: question 17 of the bytes, the reader's, 17 of the samples.
 pub fn program_refusal(input: &[u8]) -> u32
     ensures { λ r. ⌜ r ≡ ask (program-questions (now (input .entry))) ⌝ }
 {
@@ -38,7 +38,8 @@ pub fn program_refusal(input: &[u8]) -> u32
     }
 }
 
-// The finished planes of an accepted input, printed. Reader and finishing call then accept.
+// The page of an accepted input, at the front of `out`; how many bytes. The reader and the finishing call then accept too, so their
+// answers are not looked at.
 fn put_planes(
     input: &[u8],
     f: Fields,
@@ -71,7 +72,7 @@ fn put_planes(
     printing::put_page(out, f.width, f.height, red, green, blue)
 }
 
-// The same, with buffers of its own, of which it lends as much as the frame has samples.
+// The same, by way of buffers of its own, of which it lends just as much as the frame has samples.
 fn put_finished(input: &[u8], f: Fields, out: &mut [u8; 19456]) -> usize
     requires { ⌜ ask (program-questions (now input)) ≡ 0 ⌝ }
     requires { ⌜ f ≡ fields-of (now input) ⌝ }
@@ -95,8 +96,8 @@ fn put_finished(input: &[u8], f: Fields, out: &mut [u8; 19456]) -> usize
     )
 }
 
-// The program's text, at the front of `out`; how many bytes. The rest of `out` stays. The page of three planes of 1,024 samples takes
-// at most 12 + 6·3·1,024 bytes, so that 19·1,024 are enough.
+// The program's text, at the front of `out`; how many bytes. The rest of `out` stays. Its 19·1,024 bytes are enough: the page of
+// 1,024 places takes at most 12 + 6·3·1,024.
 pub fn program_text(input: &[u8], out: &mut [u8; 19456]) -> usize
     ensures { λ r. ⌜ Written (program-text (now (input .entry))) (now (out .entry)) r (now (out .exit)) ⌝ }
 {

@@ -1,20 +1,14 @@
 -- `program::read_input` meets its contract: 17, the reader's questions, 17.
 -- Assumes nothing.
-use mathlib.Core.Path.{_≡_}
-use mathlib.Core.List.{[], _∷_}
-use Prim.Native.Nat.{ℕ}
 use native.Mathlib.Omega.{arith}
 use denote.Ref.{now}
-use Rattle.questions.specs.Questions.{ask}
-use Rattle.questions.proofs.Asking.{asking}
-use Rattle.program.specs.Program.{count-question, program-questions}
-use Rattle.program.proofs.Inputs.{input-no, input-refused, input-allowed, input-rest, input-yes}
+use Rattle.program.proofs.Inputs.{input-long, input-refused, input-allowed, input-many, input-sound}
 use borrow.Author.Needs.{needs}
 use Rattle.program.proofs.read_input.Statement.{statement}
 use Rattle.program.proofs.read_input.Tie as tie
 
 returns : tie.Need-returns
-returns c = input-no (now (c .before .before .args .input)) _ (search asking) (λ z. omega arith)
+returns c = input-long (now (c .before .before .args .input)) (omega arith)
 
 read-packet-requires : tie.Need-read-packet-requires
 read-packet-requires c κs = search needs
@@ -37,23 +31,17 @@ mul-if2 c =
     let k = input-allowed (now (r .before .before .before .args .input)) (omega arith) (r .read-packet .ensures) _ (f .read .given .1) in
     record { fits = omega (arith, k .shape .area) }
 
--- 17 of the samples, where the reader answered fields
-rest : (c : tie.After-struct-known) (n : ℕ)
-    → let f = c .before .before in
-    n ≡ ask (count-question (f .read .given .0 .0) ∷ []) → n ≡ ask (program-questions (now (f .before .before .before .before .before .args .input)))
-rest c n q =
-    let f = c .before .before in
-    let r = f .before .before in
-    input-rest (now (r .before .before .before .args .input)) (omega arith) (r .read-packet .ensures) _ (f .read .given .1) n q
-
 returns-3 : tie.Need-returns-3
-returns-3 c = input-no (now (c .before .before .before .before .before .before .before .before .args .input)) _ (rest (c .before) _ (search asking)) (λ z. omega arith)
+returns-3 c =
+    let f = c .before .before .before in
+    let r = f .before .before in
+    input-many (now (r .before .before .before .args .input)) (omega arith) (r .read-packet .ensures) _ (f .read .given .1) (omega arith)
 
 returns-4 : tie.Need-returns-4
 returns-4 c =
     let f = c .before .before .before in
     let r = f .before .before in
-    input-yes (now (r .before .before .before .args .input)) (omega arith) (r .read-packet .ensures) _ (f .read .given .1) (rest (c .before) _ (search asking))
+    input-sound (now (r .before .before .before .args .input)) (omega arith) (r .read-packet .ensures) _ (f .read .given .1) (omega arith)
 
 pub read-input-spec : {M : Type 1} → statement M
 read-input-spec =
