@@ -69,7 +69,7 @@ planes-finished : (f : Fields) (samples : List ℕ) → Finishable f samples
     → {tally : Tally} {mosaic out : List ℕ} {before after : Planes (List ℕ)} {work work-after : List ℤ} {r : FinishAnswer} → Rooms (f .width * f .height) mosaic before work out
     → FinishResult (finish-call (packet-frame f samples) (f .rounds) (f .threshold) tally before work) r after work-after
     → after ≡ finish-lists ceiling (f .rounds) (f .threshold) (packet-frame f samples)
-planes-finished f samples k {before = before} {work = work} room m = m .three-planes ∙ sym (left-yes qs _ before 0 (sym accepted) refl)
+planes-finished f samples k {before = before} {work = work} room m = m .leaves .three-planes ∙ sym (left-yes qs _ before 0 (sym accepted) refl)
   where
     qs : List Question
     qs = finish-questions (packet-frame f samples) (f .rounds) (f .threshold) (lengths before) (length work)
