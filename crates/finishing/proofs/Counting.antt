@@ -7,7 +7,7 @@ use native.Mathlib.Omega.{arith}
 use Rattle.questions.specs.Questions.{ask}
 use Rattle.questions.specs.Answers.{if-accepted}
 use Rattle.finishing.specs.Tally.{largest-count, stopped, finished-after, refused-after, rounds-after, tally, zero-tally, next-tally}
-use Rattle.finishing.specs.Calls.{questions-of, tally-of-answer, FinishResult}
+use Rattle.finishing.specs.Calls.{questions-of, tally-of-answer}
 use Rattle.finishing.specs.Histories.{FinishRun, FinishHistory, last-tally, accepted-calls, refused-calls, accepted-rounds, history-tally}
 use Rattle.finishing.specs.declared.Tally.{Tally}
 

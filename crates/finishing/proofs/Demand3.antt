@@ -2,7 +2,7 @@
 use mathlib.Core.Path.{_≡_, refl, sym, _∙_, ap}
 use mathlib.Core.Bool.{Bool, true, false, cond}
 use mathlib.Core.List.{List, [], _∷_}
-use Prim.Native.Nat.{ℕ, _*_, _≤_}
+use Prim.Native.Nat.{ℕ, _*_}
 use native.Mathlib.Nat.{mul-comm}
 use lib.Dec.{eqb, leb}
 use lib.IntN.{ℤ}
@@ -12,10 +12,10 @@ use Rattle.questions.specs.Questions.{Question, question, ceiling, ask, between
 use Rattle.questions.proofs.Asking.{between-yes}
 use Rattle.questions.proofs.Answering.{left-yes}
 use Rattle.turns.specs.Frames.{Frame, frame, Planes, planes, lengths, turn-frame}
-use Rattle.turns.specs.Turning.{frame-questions, accepted-as, TurnResult}
+use Rattle.turns.specs.Turning.{frame-questions, TurnResult}
 use Rattle.turns.specs.declared.TurnedFrame.{TurnedFrame}
 use Rattle.turns.specs.declared.TurnedFrame.the-variants.{Accepted, Refused}
-use Rattle.turns.proofs.Frames.{Whole, turned-whole, all-at-most-turned, layout-turned}
+use Rattle.turns.proofs.Frames.{turned-whole, all-at-most-turned, layout-turned}
 use Rattle.turns.proofs.Calls.{frame-width, frame-height, Fillable, fillable}
 use Rattle.finishing.specs.Finishing.{finish-lists}
 use Rattle.finishing.specs.Calls.{finish-call, finish-questions, number-of-answer, FinishResult, FinishNumber}

@@ -2,21 +2,19 @@
 -- nothing.
 use mathlib.Core.Path.{_≡_, refl, sym, _∙_, ap, subst}
 use mathlib.Core.Bool.{true}
-use mathlib.Core.List.{List, [], _∷_}
-use Prim.Native.Nat.{ℕ, _*_, _≤_, _<_}
-use native.Mathlib.Omega.{arith}
-use lib.Dec.{eqb, leb}
-use lib.IntN.{ℤ, pos}
+use mathlib.Core.List.{List}
+use Prim.Native.Nat.{ℕ, _*_, _≤_}
+use lib.IntN.{ℤ}
 use lib.ListN.{length}
 use borrow.Author.Tests.{eqb-true, leb-true, eq-eqb, le-leb}
-use Rattle.integers.proofs.Lists.{length-overwrite, overwrite-again}
-use Rattle.questions.specs.Questions.{Question, question, ceiling, ask, all-at-most, shape-questions, settings-questions, frame-questions, samples-question}
+use Rattle.questions.specs.Questions.{ceiling, ask, all-at-most, shape-questions, settings-questions, frame-questions}
 use Rattle.questions.proofs.Asking.{AllYes, all-yes, all-yes-split, all-yes-both, ask-zero}
 use Rattle.questions.proofs.Answering.{left-yes}
-use Rattle.turns.specs.Frames.{Frame, Planes, planes, lengths, listing, listings, plane-of}
+use Rattle.turns.specs.Frames.{Frame, Planes, planes, lengths, listing, plane-of}
 use Rattle.turns.proofs.Commuting.{Agree}
 use Rattle.turns.proofs.Frames.{length-listing, listing-agree, plane-of-listing, plane-bound, listing-bound}
 use Rattle.work_buffer.specs.Buffer.{zeroed}
+use Rattle.work_buffer.proofs.Buffer.{length-zeroed, zeroed-again}
 use Rattle.estimate.specs.Estimates.{estimate}
 use Rattle.estimate.specs.Calls.{estimate-questions, estimate-lists, EstimateResult}
 use Rattle.estimate.specs.declared.EstimateAnswer.{EstimateAnswer}
@@ -163,15 +161,6 @@ finished-by-parts top f n threshold =
         → listing w h (λ r c. part (rounds top n threshold w h (f .layout) (λ i j. (mosaic i j, read (updated-lists top f) i j)) r c))
         ≡ listing w h (λ r c. part (rounds top n threshold w h (f .layout) (λ i j. (mosaic i j, updated top w h (f .layout) mosaic i j)) r c))
     colour part = listing-agree w h (λ r c hr hc. ap part (rounds-commute top n threshold .agrees w h (f .layout) _ _ (λ i j hi hj. λ k. (mosaic i j, all i j hi hj k)) r c hr hc))
-
--- the work buffer
-pub length-zeroed : (w h : ℕ) (work : List ℤ) → 8 * (w * h) ≤ length work → length (zeroed w h work) ≡ length work
-unfolding zeroed
-length-zeroed w h work room = length-overwrite work 0 (8 * (w * h)) (λ k. pos 0) (omega (arith, room))
-
-pub zeroed-again : (w h : ℕ) (work : List ℤ) → 8 * (w * h) ≤ length work → zeroed w h (zeroed w h work) ≡ zeroed w h work
-unfolding zeroed
-zeroed-again w h work room = overwrite-again (pos 0) work 0 (8 * (w * h)) (8 * (w * h)) _ _ (omega arith) (omega (arith, room))
 
 -- what is left after the three calls, each given what the one before it left
 pub parts-leave : (f : Frame) (n threshold : ℕ) (before : Planes (List ℕ)) (work : List ℤ) → 0 ≡ ask (finish-questions f n threshold (lengths before) (length work))

@@ -1,10 +1,10 @@
 -- Finishing commutes with every turn: the planes of a turned frame are the frame's planes turned. Assumes nothing.
-use mathlib.Core.Path.{_≡_, refl, sym, _∙_, ap}
+use mathlib.Core.Path.{_≡_, refl, _∙_, ap}
 use mathlib.Core.List.{List, [], _∷_}
 use Prim.Native.Nat.{ℕ}
 use Rattle.turns.specs.Frames.{Frame, frame, Planes, planes, listing, plane-of, picture-of, frame-of, turn-frame}
 use Rattle.turns.specs.Operations.{Operation}
-use Rattle.turns.specs.Pictures.{Picture, steps-of, turned, _≈_}
+use Rattle.turns.specs.Pictures.{steps-of, turned, _≈_}
 use Rattle.turns.proofs.Pictures.{≈-sym, ≈-trans, turned-by-≈}
 use Rattle.turns.proofs.Commuting.{Commutes, same, composed, paired, pointwise, apply, apply-≈, apply-turned}
 use Rattle.turns.proofs.Frames.{picture-of-frame, frame-of-≈}

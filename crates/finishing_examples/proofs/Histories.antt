@@ -1,17 +1,15 @@
 -- Turning back and forth between two mosaics is a list of turning calls as demand 3 has it. Assumes nothing.
 use mathlib.Core.Path.{_≡_, refl, sym, _∙_, ap, subst}
-use mathlib.Core.Bool.{Bool, true, false, cond, not, xor}
+use mathlib.Core.Bool.{not}
 use mathlib.Core.List.{List, [], _∷_}
 use Prim.Native.Nat.{ℕ, zero, suc}
 use native.Mathlib.Omega.{arith}
-use lib.ListN.{length}
-use Rattle.questions.specs.Questions.{Question, ask}
+use Rattle.questions.specs.Questions.{ask}
 use Rattle.questions.specs.Answers.{if-accepted}
-use Rattle.questions.proofs.Answering.{left-no, left-yes}
 use Rattle.turns.specs.Frames.{Frame, frame, turn-frame}
-use Rattle.turns.specs.Turning.{frame-questions, number-of-frame, accepted-as, TurnResult}
+use Rattle.turns.specs.Turning.{number-of-frame, accepted-as, TurnResult}
 use Rattle.turns.specs.declared.TurnedFrame.{TurnedFrame}
-use Rattle.turns.specs.declared.TurnedFrame.the-variants.{Accepted, Refused}
+use Rattle.turns.specs.declared.TurnedFrame.the-variants.{Refused}
 use Rattle.finishing.specs.Turnings.{TurnRun, left-by, TurnHistory, standing, if-turned, accepted-turns}
 use Rattle.finishing_examples.specs.Between.{Between, between, turn-questions, turned-once, turned-all, turns-taken}
 

@@ -1,27 +1,24 @@
 -- What the functions that run demand 3 leave. Assumes nothing.
 use mathlib.Core.Path.{_≡_, refl, sym, _∙_, ap, subst}
 use mathlib.Core.Bool.{Bool, true, false, cond, not, xor}
-use mathlib.Core.List.{List, _∷_}
+use mathlib.Core.List.{List}
 use Prim.Native.Nat.{ℕ, _+_, _≤_, _<_}
 use native.Mathlib.Numerals.{add-one}
 use lib.IntN.{ℤ}
 use lib.ListN.{length, drop, getD, drop-of-length-le}
 use lib.Seq.{drop-cons}
-use Rattle.questions.specs.Questions.{ask}
-use Rattle.questions.specs.Answers.{if-accepted}
 use Rattle.questions.proofs.Answering.{left-no, left-yes}
 use Rattle.turns.specs.Frames.{Frame, frame, Planes, turn-frame}
-use Rattle.turns.specs.Turning.{frame-questions, accepted-as, TurnResult}
+use Rattle.turns.specs.Turning.{frame-questions, TurnResult}
 use Rattle.turns.specs.declared.TurnedFrame.{TurnedFrame}
 use Rattle.turns.specs.declared.TurnedFrame.the-variants.{Accepted, Refused}
 use Rattle.finishing.specs.Tally.{zero-tally}
 use Rattle.finishing.specs.Calls.{finish-call, FinishNumber}
-use Rattle.finishing.specs.Turnings.{turned-planes, standing, accepted-turns}
+use Rattle.finishing.specs.Turnings.{turned-planes}
 use Rattle.finishing.proofs.Demand3.{leaves-turned, finished-alike}
-use Rattle.finishing_examples.specs.Between.{Between, between, first-holds, second-holds, turn-questions, turned-once, turned-all, turns-taken}
-use Rattle.finishing_examples.specs.Alike.{stands, Moved, lent, Lent, FinishedAlike}
+use Rattle.finishing_examples.specs.Between.{Between, between, first-holds, second-holds, turned-once, turned-all}
+use Rattle.finishing_examples.specs.Alike.{stands, Moved, Lent, FinishedAlike}
 use Rattle.finishing_examples.specs.declared.alike.Standing.{Standing}
-use Rattle.finishing_examples.specs.declared.alike.Numbers.{Numbers}
 use Rattle.finishing_examples.proofs.Histories.{runs-of, history-of, standing-of, taken-of}
 
 abbrev standing-at : ℕ → ℕ → ℕ → Bool → Standing

@@ -1,5 +1,5 @@
--- The laws of tabulated and overwritten lists: lengths, what is read, one store more, one part after another; and of the test
--- whether two lists are the same. Assumes nothing.
+-- The laws of tabulated and overwritten lists: lengths, what is read, one store more, one part after another; of the test whether two
+-- lists are the same; and of runs that are stored. Assumes nothing.
 use mathlib.Core.Path.{_≡_, refl, sym, ap, _∙_, subst}
 use mathlib.Core.Bool.{Bool, true, false, _&&_}
 use mathlib.Core.List.{List, [], _∷_, _++_, map, append-assoc, append-nil}
@@ -10,7 +10,7 @@ use native.Mathlib.Nat.{add-zero, eq-or-lt-of-le, le-of-suc-le-suc}
 use native.Mathlib.Numerals.{add-one}
 use native.Mathlib.Omega.{arith}
 use lib.ListN.{length, take, drop, getD, set, length-append, length-drop, take-append-drop, List·getD-append, drop-of-length-le}
-use lib.Seq.{drop-cons, set-at, append-snoc, getD-append-add, getD-take, getD-drop, length-take-le, ext-getD, getD-at}
+use lib.Seq.{sets, drop-cons, set-at, append-snoc, getD-append-add, getD-take, getD-drop, length-take-le, ext-getD, getD-at}
 use lib.Dec.{eqb, eqb→eq}
 use borrow.Author.Tests.{eq-eqb}
 use Rattle.integers.specs.Lists.{tabulate, overwrite, same-list}
@@ -221,3 +221,11 @@ same-list-no l m n = either (same-list l m) refl
     either : (b : Bool) → same-list l m ≡ b → b ≡ false
     either true e = absurd (n (same-list-is l m e))
     either false e = refl
+
+-- ---- a run of elements stored after another
+pub sets-append : (l : List ℕ) (at : ℕ) (p q : List ℕ) → sets (sets l at p) (at + length p) q ≡ sets l at (p ++ q)
+sets-append l at [] q = ap (λ (k : ℕ). sets l k q) (add-zero at)
+sets-append l at (x ∷ p) q = ap (λ (k : ℕ). sets (sets (set l at x) (suc at) p) k q) next ∙ sets-append (set l at x) (suc at) p q
+  where
+    next : at + suc (length p) ≡ suc at + length p
+    next = omega arith

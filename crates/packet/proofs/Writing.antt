@@ -1,13 +1,13 @@
 -- Runs of stores, and what the writer shows at its returns. Assumes nothing.
-use Prim.Native.Nat.{ℕ, suc, _+_, _*_, _≤_}
+use Prim.Native.Nat.{ℕ, _+_, _*_, _≤_}
 use mathlib.Core.Path.{_≡_, refl, ap, _∙_}
 use mathlib.Core.Bool.{true}
-use mathlib.Core.List.{List, [], _∷_, _++_}
-use native.Mathlib.Nat.{add-zero}
+use mathlib.Core.List.{List, _++_}
 use native.Mathlib.Omega.{arith}
-use lib.ListN.{length, drop, set, length-append}
+use lib.ListN.{length, drop, length-append}
 use lib.Seq.{sets, sets-eq}
 use borrow.Author.Tests.{leb-true, eqb-true}
+use Rattle.integers.proofs.Lists.{sets-append}
 use Rattle.questions.specs.Questions.{ask, all-at-most, ceiling}
 use Rattle.questions.proofs.Asking.{all-yes, all-yes-split}
 use Rattle.questions.proofs.Answering.{answer-no, answer-yes, left-no, left-yes}
@@ -20,13 +20,6 @@ use Rattle.packet.specs.declared.WrittenPacket.the-variants.{Bytes, Refu
 use Rattle.packet.proofs.Stores.{Allowed, allowed}
 
 -- ---- one run of stores after another
-sets-append : (l : List ℕ) (at : ℕ) (p q : List ℕ) → sets (sets l at p) (at + length p) q ≡ sets l at (p ++ q)
-sets-append l at [] q = ap (λ (k : ℕ). sets l k q) (add-zero at)
-sets-append l at (x ∷ p) q = ap (λ (k : ℕ). sets (sets (set l at x) (suc at) p) k q) next ∙ sets-append (set l at x) (suc at) p q
-  where
-    next : at + suc (length p) ≡ suc at + length p
-    next = omega arith
-
 sets-then : (l : List ℕ) (at : ℕ) (p q : List ℕ) {x y : List ℕ} (k : ℕ) → k ≡ at + length p → x ≡ sets l at p → y ≡ sets x k q → y ≡ sets l at (p ++ q)
 sets-then l at p q k e f g = g ∙ (λ j. sets (f j) (e j) q) ∙ sets-append l at p q
 

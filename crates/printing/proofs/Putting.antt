@@ -7,14 +7,8 @@ use native.Mathlib.Numerals.{add-one}
 use native.Mathlib.Omega.{arith}
 use lib.ListN.{length, getD, drop, set, length-append, drop-of-length-le}
 use lib.Seq.{sets, set-comm, drop-cons}
+use Rattle.integers.proofs.Lists.{sets-append}
 use Rattle.printing.specs.Text.{Put, Written}
-
-sets-append : (l : List ℕ) (at : ℕ) (p q : List ℕ) → sets (sets l at p) (at + length p) q ≡ sets l at (p ++ q)
-sets-append l at [] q = ap (λ (k : ℕ). sets l k q) (add-zero at)
-sets-append l at (x ∷ p) q = ap (λ (k : ℕ). sets (sets (set l at x) (suc at) p) k q) next ∙ sets-append (set l at x) (suc at) p q
-  where
-    next : at + suc (length p) ≡ suc at + length p
-    next = omega arith
 
 -- the last byte stored before the others
 pub sets-last : (l : List ℕ) (at k : ℕ) (p : List ℕ) (x : ℕ) → k ≡ at + length p → sets (set l k x) at p ≡ sets l at (p ++ (x ∷ []))

@@ -69,6 +69,15 @@ pub zeroed-with-plane : (w h columns rows : ℕ) (p : ℕ → ℕ → ℤ) (work
 unfolding zeroed with-plane
 zeroed-with-plane w h columns rows p work few room = overwrite-again (pos 0) work 0 (columns * rows) (8 * (w * h)) _ (λ k. pos 0) few (omega (arith, room))
 
+-- zeroed, it is as long, and zeroing it again changes nothing
+pub length-zeroed : (w h : ℕ) (work : List ℤ) → 8 * (w * h) ≤ length work → length (zeroed w h work) ≡ length work
+unfolding zeroed
+length-zeroed w h work room = length-overwrite work 0 (8 * (w * h)) (λ k. pos 0) (omega (arith, room))
+
+pub zeroed-again : (w h : ℕ) (work : List ℤ) → 8 * (w * h) ≤ length work → zeroed w h (zeroed w h work) ≡ zeroed w h work
+unfolding zeroed
+zeroed-again w h work room = overwrite-again (pos 0) work 0 (8 * (w * h)) (8 * (w * h)) _ _ (omega arith) (omega (arith, room))
+
 -- ---- samples of a frame in it
 -- all of them
 pub loaded : (w h : ℕ) (plane : List ℕ) (work : List ℤ) {l : List ℤ} → length plane ≡ w * h → l ≡ overwrite work 0 (length plane) (sample plane)
