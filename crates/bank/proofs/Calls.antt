@@ -121,26 +121,26 @@ module _ (w h : ℕ) (given : List ℤ) (before : Bands (List ℤ)) (n : ℕ) (e
   pub split-no : (n ≡ 0 → ⊥) → SplitResult w h given before (Refused n) before
   split-no z = record {
     answer = answer-no number-of-answer (split-questions w h given (lengths before)) Accepted (Refused n) e z;
-    buffers = left-no (split-questions w h given (lengths before)) (split-lists w h given) before n e z;
+    leaves = left-no (split-questions w h given (lengths before)) (split-lists w h given) before n e z;
   }
 
   pub split-yes : n ≡ 0 → (after : Bands (List ℤ)) → after ≡ split-lists w h given → SplitResult w h given before Accepted after
   split-yes z after p = record {
     answer = answer-yes number-of-answer (split-questions w h given (lengths before)) Accepted Accepted n e z refl refl;
-    buffers = p ∙ left-yes (split-questions w h given (lengths before)) (split-lists w h given) before n e z;
+    leaves = p ∙ left-yes (split-questions w h given (lengths before)) (split-lists w h given) before n e z;
   }
 
 module _ (w h : ℕ) (given : Bands (List ℤ)) (before : List ℤ) (n : ℕ) (e : n ≡ ask (join-questions w h given (length before))) where
   pub join-no : (n ≡ 0 → ⊥) → JoinResult w h given before (Refused n) before
   join-no z = record {
     answer = answer-no number-of-answer (join-questions w h given (length before)) Accepted (Refused n) e z;
-    buffer = left-no (join-questions w h given (length before)) (join-list w h given) before n e z;
+    leaves = left-no (join-questions w h given (length before)) (join-list w h given) before n e z;
   }
 
   pub join-yes : n ≡ 0 → (after : List ℤ) → after ≡ join-list w h given → JoinResult w h given before Accepted after
   join-yes z after p = record {
     answer = answer-yes number-of-answer (join-questions w h given (length before)) Accepted Accepted n e z refl refl;
-    buffer = p ∙ left-yes (join-questions w h given (length before)) (join-list w h given) before n e z;
+    leaves = p ∙ left-yes (join-questions w h given (length before)) (join-list w h given) before n e z;
   }
 
 -- ---- demand 2, of the calls: what join leaves after split is 1,024 times the plane
@@ -232,7 +232,7 @@ split-then-join w h given before r after p z sums s last q e = (number ∙ accep
     k = splittable w h given (lengths before) (number-of-answer r) (p .answer .number) z
 
     laid : split-lists w h given ≡ after
-    laid = left-yes (split-questions w h given (lengths before)) (split-lists w h given) before (number-of-answer r) (p .answer .number) z ∙ sym (p .buffers)
+    laid = left-yes (split-questions w h given (lengths before)) (split-lists w h given) before (number-of-answer r) (p .answer .number) z ∙ sym (p .leaves)
 
     accepts : ask (join-questions w h after (length sums)) ≡ 0
     accepts = ap (λ (b : Bands (List ℤ)). ask (join-questions w h b (length sums))) (sym laid) ∙ join-accepts w h given (k .sizes) (k .plane) (length sums) e
@@ -241,4 +241,4 @@ split-then-join w h given before r after p z sums s last q e = (number ∙ accep
     number = q .answer .number
 
     left : last ≡ join-list w h (split-lists w h given)
-    left = q .buffer ∙ sym (left-yes (join-questions w h after (length sums)) (join-list w h after) sums 0 (sym accepts) refl) ∙ ap (join-list w h) (sym laid)
+    left = q .leaves ∙ sym (left-yes (join-questions w h after (length sums)) (join-list w h after) sums 0 (sym accepts) refl) ∙ ap (join-list w h) (sym laid)

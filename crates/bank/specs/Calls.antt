@@ -74,12 +74,20 @@ split-lists w h given =
 unfoldable pub join-list : ℕ → ℕ → Bands (List ℤ) → List ℤ
 join-list w h given = listing w h (join 1 w h (bands-of w given))
 
--- Split, given a plane and four buffers that held `before`: its answer r, and what the buffers hold `after`.
+-- split, given a plane and four buffers that held `before`: what the buffers hold `after`
+abbrev pub SplitLeaves : ℕ → ℕ → List ℤ → Bands (List ℤ) → Bands (List ℤ) → Type 0
+SplitLeaves width height given before after = after ≡ if-accepted (split-questions width height given (lengths before)) (split-lists width height given) before
+
+-- and its answer r
 pub record SplitResult (width height : ℕ) (given : List ℤ) (before : Bands (List ℤ)) (r : BankAnswer) (after : Bands (List ℤ)) : Type 0 where
   pub answer : Answered number-of-answer (split-questions width height given (lengths before)) bank-answer.Accepted r
-  pub buffers : after ≡ if-accepted (split-questions width height given (lengths before)) (split-lists width height given) before
+  pub leaves : SplitLeaves width height given before after
 
--- Join, given four bands and a buffer that held `before`: its answer r, and what the buffer holds `after`.
+-- join, given four bands and a buffer that held `before`: what the buffer holds `after`
+abbrev pub JoinLeaves : ℕ → ℕ → Bands (List ℤ) → List ℤ → List ℤ → Type 0
+JoinLeaves width height given before after = after ≡ if-accepted (join-questions width height given (length before)) (join-list width height given) before
+
+-- and its answer r
 pub record JoinResult (width height : ℕ) (given : Bands (List ℤ)) (before : List ℤ) (r : BankAnswer) (after : List ℤ) : Type 0 where
   pub answer : Answered number-of-answer (join-questions width height given (length before)) bank-answer.Accepted r
-  pub buffer : after ≡ if-accepted (join-questions width height given (length before)) (join-list width height given) before
+  pub leaves : JoinLeaves width height given before after

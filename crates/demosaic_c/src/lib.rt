@@ -1,12 +1,17 @@
 // What C sees of the engine: thin calls, declared in include/demosaic.h. A slice is a pointer and a length there.
 use finishing::Tally;
 ghost use mathlib.Core.Path.{_≡_};
+ghost use lib.ListN.{length};
 ghost use Rattle.questions.specs.Questions.{ask, ceiling};
+ghost use Rattle.questions.specs.Answers.{Numbered};
 ghost use Rattle.packet.specs.Calls.{read-questions};
 ghost use Rattle.filters.specs.Bank.{brought-back};
 ghost use Rattle.turns.specs.Frames.{frame, planes};
-ghost use Rattle.bank.specs.Calls.{bands};
-ghost use Rattle.demosaic_c.specs.Calls.{SplitNumber, JoinNumber, EstimateNumber, UpdateNumber, RoundsNumber};
+ghost use Rattle.turns.specs.Frames as frames;
+ghost use Rattle.bank.specs.Calls.{bands, lengths, split-questions, join-questions, SplitLeaves, JoinLeaves};
+ghost use Rattle.estimate.specs.Calls.{estimate-questions, EstimateLeaves};
+ghost use Rattle.update.specs.Calls.{update-questions, UpdateLeaves};
+ghost use Rattle.rounds.specs.Calls.{rounds-questions, RoundsLeaves};
 ghost use Rattle.finishing.specs.Tally.{finished-after, refused-after, rounds-after, zero-tally};
 ghost use Rattle.finishing.specs.Calls.{finish-call, FinishNumber};
 
@@ -29,7 +34,7 @@ pub extern "C" fn demosaic_split(
     band3: &mut [i32],
     band4: &mut [i32],
 ) -> u32
-    ensures { λ r. ⌜ SplitNumber width height (now (plane .entry)) (bands (now (band1 .entry)) (now (band2 .entry)) (now (band3 .entry)) (now (band4 .entry))) r (bands (now (band1 .exit)) (now (band2 .exit)) (now (band3 .exit)) (now (band4 .exit))) ⌝ }
+    ensures { λ r. ⌜ Numbered (split-questions width height (now (plane .entry)) (lengths (bands (now (band1 .entry)) (now (band2 .entry)) (now (band3 .entry)) (now (band4 .entry))))) (SplitLeaves width height (now (plane .entry)) (bands (now (band1 .entry)) (now (band2 .entry)) (now (band3 .entry)) (now (band4 .entry))) (bands (now (band1 .exit)) (now (band2 .exit)) (now (band3 .exit)) (now (band4 .exit)))) r ⌝ }
 {
     bank::split(width, height, plane, band1, band2, band3, band4).number()
 }
@@ -45,7 +50,7 @@ pub extern "C" fn demosaic_join(
     band4: &[i32],
     sums: &mut [i32],
 ) -> u32
-    ensures { λ r. ⌜ JoinNumber width height (bands (now (band1 .entry)) (now (band2 .entry)) (now (band3 .entry)) (now (band4 .entry))) (now (sums .entry)) r (now (sums .exit)) ⌝ }
+    ensures { λ r. ⌜ Numbered (join-questions width height (bands (now (band1 .entry)) (now (band2 .entry)) (now (band3 .entry)) (now (band4 .entry))) (length (now (sums .entry)))) (JoinLeaves width height (bands (now (band1 .entry)) (now (band2 .entry)) (now (band3 .entry)) (now (band4 .entry))) (now (sums .entry)) (now (sums .exit))) r ⌝ }
 {
     bank::join(width, height, band1, band2, band3, band4, sums).number()
 }
@@ -69,7 +74,7 @@ pub extern "C" fn demosaic_estimate(
     green: &mut [u16],
     blue: &mut [u16],
 ) -> u32
-    ensures { λ r. ⌜ EstimateNumber (frame width height layout (now (mosaic .entry))) (planes (now (red .entry)) (now (green .entry)) (now (blue .entry))) r (planes (now (red .exit)) (now (green .exit)) (now (blue .exit))) ⌝ }
+    ensures { λ r. ⌜ Numbered (estimate-questions (frame width height layout (now (mosaic .entry))) (frames.lengths (planes (now (red .entry)) (now (green .entry)) (now (blue .entry))))) (EstimateLeaves (frame width height layout (now (mosaic .entry))) (planes (now (red .entry)) (now (green .entry)) (now (blue .entry))) (planes (now (red .exit)) (now (green .exit)) (now (blue .exit)))) r ⌝ }
 {
     estimate::estimate(width, height, layout, mosaic, red, green, blue).number()
 }
@@ -84,7 +89,7 @@ pub extern "C" fn demosaic_update(
     green: &mut [u16],
     work: &mut [i32],
 ) -> u32
-    ensures { λ r. ⌜ UpdateNumber (frame width height layout (now (mosaic .entry))) (now (green .entry)) (now (work .entry)) r (now (green .exit)) (now (work .exit)) ⌝ }
+    ensures { λ r. ⌜ Numbered (update-questions (frame width height layout (now (mosaic .entry))) (now (green .entry)) (length (now (work .entry)))) (UpdateLeaves (frame width height layout (now (mosaic .entry))) (now (green .entry)) (now (work .entry)) (now (green .exit)) (now (work .exit))) r ⌝ }
 {
     update::update(width, height, layout, mosaic, green, work).number()
 }
@@ -103,7 +108,7 @@ pub extern "C" fn demosaic_rounds(
     blue: &mut [u16],
     work: &mut [i32],
 ) -> u32
-    ensures { λ r. ⌜ RoundsNumber (frame width height layout (now (mosaic .entry))) rounds threshold (planes (now (red .entry)) (now (green .entry)) (now (blue .entry))) (now (work .entry)) r (planes (now (red .exit)) (now (green .entry)) (now (blue .exit))) (now (work .exit)) ⌝ }
+    ensures { λ r. ⌜ Numbered (rounds-questions (frame width height layout (now (mosaic .entry))) rounds threshold (planes (now (red .entry)) (now (green .entry)) (now (blue .entry))) (length (now (work .entry)))) (RoundsLeaves (frame width height layout (now (mosaic .entry))) rounds threshold (planes (now (red .entry)) (now (green .entry)) (now (blue .entry))) (now (work .entry)) (planes (now (red .exit)) (now (green .entry)) (now (blue .exit))) (now (work .exit))) r ⌝ }
 {
     rounds::rounds(
         width,

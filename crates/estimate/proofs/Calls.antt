@@ -46,11 +46,11 @@ module _ (f : Frame) (before : Planes (List ℕ)) (n : ℕ) (e : n ≡ ask (esti
   pub estimate-no : (n ≡ 0 → ⊥) → EstimateResult f before (Refused n) before
   estimate-no z = record {
     answer = answer-no number-of-answer (estimate-questions f (lengths before)) Accepted (Refused n) e z;
-    buffers = left-no (estimate-questions f (lengths before)) (estimate-lists ceiling f) before n e z;
+    leaves = left-no (estimate-questions f (lengths before)) (estimate-lists ceiling f) before n e z;
   }
 
   pub estimate-yes : n ≡ 0 → (after : Planes (List ℕ)) → after ≡ estimate-lists ceiling f → EstimateResult f before Accepted after
   estimate-yes z after p = record {
     answer = answer-yes number-of-answer (estimate-questions f (lengths before)) Accepted Accepted n e z refl refl;
-    buffers = p ∙ left-yes (estimate-questions f (lengths before)) (estimate-lists ceiling f) before n e z;
+    leaves = p ∙ left-yes (estimate-questions f (lengths before)) (estimate-lists ceiling f) before n e z;
   }

@@ -29,7 +29,11 @@ number-of-answer (estimate-answer.Refused number) = number
 unfoldable pub estimate-lists : ℕ → Frame → Planes (List ℕ)
 estimate-lists top f = listings (f .width) (f .height) (estimate top (f .width) (f .height) (f .layout) (plane-of 0 (f .width) (f .samples)))
 
--- The estimate call, given frame f and three planes that held `before`: its answer r, and what the planes hold `after`.
+-- the estimate call, given frame f and three planes that held `before`: what the planes hold `after`
+abbrev pub EstimateLeaves : Frame → Planes (List ℕ) → Planes (List ℕ) → Type 0
+EstimateLeaves f before after = after ≡ if-accepted (estimate-questions f (lengths before)) (estimate-lists ceiling f) before
+
+-- and its answer r
 pub record EstimateResult (f : Frame) (before : Planes (List ℕ)) (r : EstimateAnswer) (after : Planes (List ℕ)) : Type 0 where
   pub answer : Answered number-of-answer (estimate-questions f (lengths before)) estimate-answer.Accepted r
-  pub buffers : after ≡ if-accepted (estimate-questions f (lengths before)) (estimate-lists ceiling f) before
+  pub leaves : EstimateLeaves f before after

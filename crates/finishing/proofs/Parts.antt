@@ -168,8 +168,8 @@ pub parts-leave : (f : Frame) (n threshold : ℕ) (before : Planes (List ℕ)) (
     → EstimateResult f before a first → UpdateResult f (first .green) work b green work₂ → rounds.RoundsResult f n threshold (planes (first .red) green (first .blue)) work₂ c third work₃
     → (third ≡ finish-lists ceiling n threshold f) × (work₃ ≡ zeroed (f .width) (f .height) work)
 parts-leave f n threshold before work e {b = b} {c = c} {first} {third} {green} {work₂} {work₃} p q r = (
-  t .three-planes ∙ sym (left-yes (rounds.rounds-questions f n threshold (updated-lists ceiling f) (length (zeroed (f .width) (f .height) work))) _ _ 0 accepts refl) ∙ finished-by-parts ceiling f n threshold,
-  t .work-buffer ∙ sym (left-yes (rounds.rounds-questions f n threshold (updated-lists ceiling f) (length (zeroed (f .width) (f .height) work))) _ _ 0 accepts refl) ∙ zeroed-again (f .width) (f .height) work room,
+  t .leaves .three-planes ∙ sym (left-yes (rounds.rounds-questions f n threshold (updated-lists ceiling f) (length (zeroed (f .width) (f .height) work))) _ _ 0 accepts refl) ∙ finished-by-parts ceiling f n threshold,
+  t .leaves .work-buffer ∙ sym (left-yes (rounds.rounds-questions f n threshold (updated-lists ceiling f) (length (zeroed (f .width) (f .height) work))) _ _ 0 accepts refl) ∙ zeroed-again (f .width) (f .height) work room,
 )
   where
     room : 8 * (f .width * f .height) ≤ length work
@@ -177,7 +177,7 @@ parts-leave f n threshold before work e {b = b} {c = c} {first} {third} {green} 
 
     -- the estimate leaves its lists
     estimated : first ≡ estimate-lists ceiling f
-    estimated = p .buffers ∙ sym (left-yes (estimate-questions f (lengths before)) _ _ 0 (estimate-accepts f n threshold (lengths before) (length work) e) refl)
+    estimated = p .leaves ∙ sym (left-yes (estimate-questions f (lengths before)) _ _ 0 (estimate-accepts f n threshold (lengths before) (length work) e) refl)
 
     -- the update, given them
     s : UpdateResult f (estimate-lists ceiling f .green) work b green work₂
@@ -188,10 +188,10 @@ parts-leave f n threshold before work e {b = b} {c = c} {first} {third} {green} 
 
     given : planes (first .red) green (first .blue) ≡ updated-lists ceiling f
     given = unfold updated-lists in
-        (λ i. planes (estimated i .red) ((s .plane ∙ sym (left-yes (update-questions f (estimate-lists ceiling f .green) (length work)) (update-list ceiling f (estimate-lists ceiling f .green)) (estimate-lists ceiling f .green) 0 updating refl)) i) (estimated i .blue))
+        (λ i. planes (estimated i .red) ((s .leaves .plane ∙ sym (left-yes (update-questions f (estimate-lists ceiling f .green) (length work)) (update-list ceiling f (estimate-lists ceiling f .green)) (estimate-lists ceiling f .green) 0 updating refl)) i) (estimated i .blue))
 
     zero : work₂ ≡ zeroed (f .width) (f .height) work
-    zero = s .buffer ∙ sym (left-yes (update-questions f (estimate-lists ceiling f .green) (length work)) _ _ 0 updating refl)
+    zero = s .leaves .buffer ∙ sym (left-yes (update-questions f (estimate-lists ceiling f .green) (length work)) _ _ 0 updating refl)
 
     -- and the rounds, given what it left
     t : rounds.RoundsResult f n threshold (updated-lists ceiling f) (zeroed (f .width) (f .height) work) c third work₃

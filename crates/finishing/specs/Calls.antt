@@ -6,7 +6,7 @@ use lib.Dec.{eqb, leb}
 use lib.IntN.{ℤ}
 use lib.ListN.{length}
 use Rattle.questions.specs.Questions.{Question, question, ceiling, ask, frame-questions, samples-question}
-use Rattle.questions.specs.Answers.{Answered, if-accepted}
+use Rattle.questions.specs.Answers.{Answered, Numbered, if-accepted}
 use Rattle.turns.specs.Frames.{Frame, Planes, lengths}
 use Rattle.work_buffer.specs.Buffer.{zeroed}
 use Rattle.finishing.specs.Finishing.{finish-lists}
@@ -71,7 +71,6 @@ pub record FinishResult (c : FinishCall) (r : FinishAnswer) (after : Planes (Lis
   pub next : tally-of-answer r ≡ tally-after c
   pub leaves : FinishLeaves c after work-after
 
--- and only the number of its answer
-pub record FinishNumber (c : FinishCall) (r : ℕ) (after : Planes (List ℕ)) (work-after : List ℤ) : Type 0 where
-  pub number : r ≡ ask (questions-of c)
-  pub leaves : FinishLeaves c after work-after
+-- of the answer only its number r
+abbrev pub FinishNumber : FinishCall → ℕ → Planes (List ℕ) → List ℤ → Type 0
+FinishNumber c r after work-after = Numbered (questions-of c) (FinishLeaves c after work-after) r

@@ -91,14 +91,18 @@ module _ (f : Frame) (rounds threshold : ℕ) (given : Planes (List ℕ)) (work 
   pub rounds-no : (n ≡ 0 → ⊥) → RoundsResult f rounds threshold given work (Refused n) given work
   rounds-no z = record {
     answer = answer-no number-of-answer (rounds-questions f rounds threshold given (length work)) Accepted (Refused n) e z;
-    three-planes = left-no (rounds-questions f rounds threshold given (length work)) (rounds-lists ceiling f rounds threshold given) given n e z;
-    work-buffer = left-no (rounds-questions f rounds threshold given (length work)) (zeroed (f .width) (f .height) work) work n e z;
+    leaves = record {
+      three-planes = left-no (rounds-questions f rounds threshold given (length work)) (rounds-lists ceiling f rounds threshold given) given n e z;
+      work-buffer = left-no (rounds-questions f rounds threshold given (length work)) (zeroed (f .width) (f .height) work) work n e z;
+    };
   }
 
   pub rounds-yes : n ≡ 0 → {after : Planes (List ℕ)} {work-after : List ℤ} → after ≡ rounds-lists ceiling f rounds threshold given → work-after ≡ zeroed (f .width) (f .height) work
       → RoundsResult f rounds threshold given work Accepted after work-after
   rounds-yes z p q = record {
     answer = answer-yes number-of-answer (rounds-questions f rounds threshold given (length work)) Accepted Accepted n e z refl refl;
-    three-planes = p ∙ left-yes (rounds-questions f rounds threshold given (length work)) (rounds-lists ceiling f rounds threshold given) given n e z;
-    work-buffer = q ∙ left-yes (rounds-questions f rounds threshold given (length work)) (zeroed (f .width) (f .height) work) work n e z;
+    leaves = record {
+      three-planes = p ∙ left-yes (rounds-questions f rounds threshold given (length work)) (rounds-lists ceiling f rounds threshold given) given n e z;
+      work-buffer = q ∙ left-yes (rounds-questions f rounds threshold given (length work)) (zeroed (f .width) (f .height) work) work n e z;
+    };
   }

@@ -47,9 +47,13 @@ rounds-lists top f n threshold given = planes (listing (f .width) (f .height) (�
         rounds top n threshold (f .width) (f .height) (f .layout)
         (λ r c. (plane (f .samples) r c, planes (plane (given .red) r c) (plane (given .green) r c) (plane (given .blue) r c)))
 
--- The rounds call, given frame f, so many rounds, a threshold, three planes that held `given` and a work buffer that held `work`: its
--- answer r, and what the planes and the buffer hold after.
-pub record RoundsResult (f : Frame) (rounds threshold : ℕ) (given : Planes (List ℕ)) (work : List ℤ) (r : RoundsAnswer) (after : Planes (List ℕ)) (work-after : List ℤ) : Type 0 where
-  pub answer : Answered number-of-answer (rounds-questions f rounds threshold given (length work)) rounds-answer.Accepted r
+-- the rounds call, given frame f, so many rounds, a threshold, three planes that held `given` and a work buffer that held `work`: what the
+-- planes and the buffer hold after
+pub record RoundsLeaves (f : Frame) (rounds threshold : ℕ) (given : Planes (List ℕ)) (work : List ℤ) (after : Planes (List ℕ)) (work-after : List ℤ) : Type 0 where
   pub three-planes : after ≡ if-accepted (rounds-questions f rounds threshold given (length work)) (rounds-lists ceiling f rounds threshold given) given
   pub work-buffer : work-after ≡ if-accepted (rounds-questions f rounds threshold given (length work)) (zeroed (f .width) (f .height) work) work
+
+-- and its answer r
+pub record RoundsResult (f : Frame) (rounds threshold : ℕ) (given : Planes (List ℕ)) (work : List ℤ) (r : RoundsAnswer) (after : Planes (List ℕ)) (work-after : List ℤ) : Type 0 where
+  pub answer : Answered number-of-answer (rounds-questions f rounds threshold given (length work)) rounds-answer.Accepted r
+  pub leaves : RoundsLeaves f rounds threshold given work after work-after

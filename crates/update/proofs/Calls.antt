@@ -71,13 +71,17 @@ module _ (f : Frame) (green : List ℕ) (work : List ℤ) (n : ℕ) (e : n ≡ a
   pub update-no : (n ≡ 0 → ⊥) → UpdateResult f green work (Refused n) green work
   update-no z = record {
     answer = answer-no number-of-answer (update-questions f green (length work)) Accepted (Refused n) e z;
-    plane = left-no (update-questions f green (length work)) (update-list ceiling f green) green n e z;
-    buffer = left-no (update-questions f green (length work)) (zeroed (f .width) (f .height) work) work n e z;
+    leaves = record {
+      plane = left-no (update-questions f green (length work)) (update-list ceiling f green) green n e z;
+      buffer = left-no (update-questions f green (length work)) (zeroed (f .width) (f .height) work) work n e z;
+    };
   }
 
   pub update-yes : n ≡ 0 → {green-after : List ℕ} {work-after : List ℤ} → green-after ≡ update-list ceiling f green → work-after ≡ zeroed (f .width) (f .height) work → UpdateResult f green work Accepted green-after work-after
   update-yes z p q = record {
     answer = answer-yes number-of-answer (update-questions f green (length work)) Accepted Accepted n e z refl refl;
-    plane = p ∙ left-yes (update-questions f green (length work)) (update-list ceiling f green) green n e z;
-    buffer = q ∙ left-yes (update-questions f green (length work)) (zeroed (f .width) (f .height) work) work n e z;
+    leaves = record {
+      plane = p ∙ left-yes (update-questions f green (length work)) (update-list ceiling f green) green n e z;
+      buffer = q ∙ left-yes (update-questions f green (length work)) (zeroed (f .width) (f .height) work) work n e z;
+    };
   }

@@ -34,9 +34,12 @@ unfoldable pub update-list : ℕ → Frame → List ℕ → List ℕ
 update-list top f green =
     listing (f .width) (f .height) (update top (f .width) (f .height) (f .layout) (λ r c. (plane-of 0 (f .width) (f .samples) r c, plane-of 0 (f .width) green r c)))
 
--- The update call, given frame f, a green plane that held `green`, and a work buffer that held `work`: its answer r, and what the two
--- hold after.
-pub record UpdateResult (f : Frame) (green : List ℕ) (work : List ℤ) (r : UpdateAnswer) (green-after : List ℕ) (work-after : List ℤ) : Type 0 where
-  pub answer : Answered number-of-answer (update-questions f green (length work)) update-answer.Accepted r
+-- the update call, given frame f, a green plane that held `green`, and a work buffer that held `work`: what the two hold after
+pub record UpdateLeaves (f : Frame) (green : List ℕ) (work : List ℤ) (green-after : List ℕ) (work-after : List ℤ) : Type 0 where
   pub plane : green-after ≡ if-accepted (update-questions f green (length work)) (update-list ceiling f green) green
   pub buffer : work-after ≡ if-accepted (update-questions f green (length work)) (zeroed (f .width) (f .height) work) work
+
+-- and its answer r
+pub record UpdateResult (f : Frame) (green : List ℕ) (work : List ℤ) (r : UpdateAnswer) (green-after : List ℕ) (work-after : List ℤ) : Type 0 where
+  pub answer : Answered number-of-answer (update-questions f green (length work)) update-answer.Accepted r
+  pub leaves : UpdateLeaves f green work green-after work-after
