@@ -10,6 +10,7 @@ pub mod chance;
 pub mod child;
 pub mod estimate;
 pub mod finishing;
+pub mod finishing_examples;
 pub mod low_band;
 pub mod mosaic;
 pub mod mosaics;
@@ -26,5 +27,8 @@ pub mod update;
 pub mod worked_examples;
 
 /// The programs of examples, and what each must write.
-pub const EXAMPLES: [(&str, fn() -> String); 2] =
-    [("worked_examples", worked_examples::text), ("packet_examples", packet_examples::text)];
+pub const EXAMPLES: [(&str, fn() -> String); 3] = [
+    ("worked_examples", worked_examples::text),
+    ("packet_examples", packet_examples::text),
+    ("finishing_examples", finishing_examples::text),
+];
