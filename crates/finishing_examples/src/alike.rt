@@ -3,7 +3,6 @@ use finishing::Tally;
 use turns::Turn;
 use turns::TurnedFrame;
 ghost use mathlib.Core.Path.{_≡_};
-ghost use mathlib.Core.Bool.{false};
 ghost use Rattle.turns.specs.Frames.{frame, planes};
 ghost use Rattle.finishing.specs.Tally.{zero-tally};
 ghost use Rattle.finishing.specs.Calls.{finish-call, FinishNumber};
