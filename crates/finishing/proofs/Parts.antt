@@ -2,7 +2,7 @@
 -- nothing.
 use mathlib.Core.Path.{_≡_, refl, sym, _∙_, ap, subst}
 use mathlib.Core.Bool.{true}
-use mathlib.Core.List.{List}
+use mathlib.Core.List.{List, _++_}
 use Prim.Native.Nat.{ℕ, _*_, _≤_}
 use lib.IntN.{ℤ}
 use lib.ListN.{length}
@@ -14,6 +14,7 @@ use Rattle.turns.specs.Frames.{Frame, Planes, planes, lengths, listing, plane-o
 use Rattle.turns.proofs.Commuting.{Agree}
 use Rattle.turns.proofs.Frames.{length-listing, listing-agree, plane-of-listing, plane-bound, listing-bound}
 use Rattle.work_buffer.specs.Buffer.{zeroed}
+use Rattle.work_buffer.specs.Lent.{buffer-questions}
 use Rattle.work_buffer.proofs.Buffer.{length-zeroed, zeroed-again}
 use Rattle.estimate.specs.Estimates.{estimate}
 use Rattle.estimate.specs.Calls.{estimate-questions, estimate-lists, EstimateResult}
@@ -30,7 +31,7 @@ use Rattle.rounds.specs.declared.RoundsAnswer.{RoundsAnswer}
 use Rattle.rounds.proofs.Turned.{rounds-commute}
 use Rattle.rounds.proofs.Calls.{lists-are}
 use Rattle.finishing.specs.Finishing.{updated, finish, finish-lists}
-use Rattle.finishing.specs.Calls.{buffer-questions, finish-questions}
+use Rattle.finishing.specs.Calls.{finish-questions}
 
 -- ---- the planes on the way
 -- the estimates, green updated, row by row
@@ -100,7 +101,7 @@ module _ (f : Frame) (n threshold : ℕ) (rooms : Planes ℕ) (room : ℕ) (e : 
   unfolding updated-lists
   rounds-accepts =
       sym (ask-zero (rounds.rounds-questions f n threshold (updated-lists ceiling f) room)
-      (all-yes-both (frame-questions ceiling (f .width) (f .height) (f .layout) n threshold) (rounds.buffer-questions count (f .samples) (updated-lists ceiling f) room) (known .0) (
+      (all-yes-both (frame-questions ceiling (f .width) (f .height) (f .layout) n threshold) (buffer-questions count (f .samples) (lengths (updated-lists ceiling f)) room ++ rounds.planes-questions (updated-lists ceiling f)) (known .0) (
         eq-eqb (length (f .samples)) count long,
         (
           eq-eqb (length (first .red)) count (ap (λ p. p .red) (estimates-long ceiling f)),

@@ -1,14 +1,14 @@
 -- The finishing call: what it asks, and what its answer, its tally, its planes and its work buffer are then. Assumes nothing.
 use mathlib.Core.Path.{_≡_}
-use mathlib.Core.List.{List, [], _∷_, _++_}
-use Prim.Native.Nat.{ℕ, _*_}
-use lib.Dec.{eqb, leb}
+use mathlib.Core.List.{List}
+use Prim.Native.Nat.{ℕ}
 use lib.IntN.{ℤ}
 use lib.ListN.{length}
-use Rattle.questions.specs.Questions.{Question, question, ceiling, ask, frame-questions, samples-question}
+use Rattle.questions.specs.Questions.{Question, ceiling, ask}
 use Rattle.questions.specs.Answers.{Answered, Numbered, if-accepted}
 use Rattle.turns.specs.Frames.{Frame, Planes, lengths}
 use Rattle.work_buffer.specs.Buffer.{zeroed}
+use Rattle.work_buffer.specs.Lent.{lent-questions}
 use Rattle.finishing.specs.Finishing.{finish-lists}
 use Rattle.finishing.specs.Tally.{next-tally}
 use Rattle.finishing.specs.declared.Tally.{Tally}
@@ -27,20 +27,9 @@ pub record FinishCall : Type 0 where
 abbrev pub finish-call : Frame → ℕ → ℕ → Tally → Planes (List ℕ) → List ℤ → FinishCall
 finish-call f rounds threshold tally before work = record { frame = f; rounds = rounds; threshold = threshold; tally = tally; before = before; work = work }
 
--- ---- the questions, in document 01's order
--- 6 of the mosaic and 7 of the three planes, where a plane has `count` samples, 8 and 9
-abbrev pub buffer-questions : ℕ → List ℕ → Planes ℕ → ℕ → List Question
-buffer-questions count mosaic rooms room =
-    question 6 (eqb (length mosaic) count)
-    ∷ question 7 (eqb (rooms .red) count) ∷ question 7 (eqb (rooms .green) count) ∷ question 7 (eqb (rooms .blue) count)
-    ∷ question 8 (leb (8 * count) room)
-    ∷ samples-question ceiling mosaic
-    ∷ []
-
--- 1 to 5, and then those, of a frame and of the lengths of planes and work buffer
+-- ---- the questions, in document 01's order: 1 to 9, of a frame and of the lengths of planes and work buffer
 abbrev pub finish-questions : Frame → ℕ → ℕ → Planes ℕ → ℕ → List Question
-finish-questions f rounds threshold rooms room =
-    frame-questions ceiling (f .width) (f .height) (f .layout) rounds threshold ++ buffer-questions (f .width * f .height) (f .samples) rooms room
+finish-questions = lent-questions
 
 -- those of a call
 abbrev pub questions-of : FinishCall → List Question

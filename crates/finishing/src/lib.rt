@@ -1,13 +1,13 @@
 // Document 01's finishing call and its tally.
 ghost use mathlib.Core.Path.{_≡_};
-ghost use Prim.Native.Nat.{_+_, _≤_};
+ghost use Prim.Native.Nat.{_+_};
 ghost use lib.ListN.{length};
 ghost use Rattle.questions.specs.Questions.{ceiling, ask};
 ghost use Rattle.turns.specs.Frames.{frame, planes, lengths};
 ghost use Rattle.work_buffer.specs.Buffer.{zeroed};
 ghost use Rattle.finishing.specs.Finishing.{finish-lists};
 ghost use Rattle.finishing.specs.Tally.{stopped, finished-after, refused-after, rounds-after, zero-tally, next-tally};
-ghost use Rattle.finishing.specs.Calls.{finish-call, buffer-questions, finish-questions, number-of-answer, FinishResult};
+ghost use Rattle.finishing.specs.Calls.{finish-call, finish-questions, number-of-answer, FinishResult};
 
 // Frames finished, frames refused and rounds run.
 pub struct Tally {
@@ -99,69 +99,6 @@ impl Tally {
     }
 }
 
-// Questions 6, 7, 8 and 9, where a plane has `count` samples.
-fn buffers_refusal(
-    count: usize,
-    mosaic: &[u16],
-    red_room: usize,
-    green_room: usize,
-    blue_room: usize,
-    room: usize,
-) -> u32
-    requires { ⌜ count ≤ 4194304 ⌝ }
-    ensures { λ r. ⌜ r ≡ ask (buffer-questions count (now (mosaic .entry)) (planes «red_room» «green_room» «blue_room») room) ⌝ }
-{
-    if mosaic.len() != count {
-        return 6;
-    }
-    if red_room != count {
-        return 7;
-    }
-    if green_room != count {
-        return 7;
-    }
-    if blue_room != count {
-        return 7;
-    }
-    let needed = 8 * count;
-    if room < needed {
-        return 8;
-    }
-    if !questions::samples_within(4095, mosaic) {
-        return 9;
-    }
-    0
-}
-
-// Questions 1 to 9.
-fn finish_refusal(
-    width: usize,
-    height: usize,
-    layout: u8,
-    rounds: u8,
-    threshold: u16,
-    mosaic: &[u16],
-    red_room: usize,
-    green_room: usize,
-    blue_room: usize,
-    room: usize,
-) -> u32
-    ensures { λ r. ⌜ r ≡ ask (finish-questions (frame width height layout (now (mosaic .entry))) rounds threshold (planes «red_room» «green_room» «blue_room») room) ⌝ }
-{
-    let number = questions::frame(4095, width, height, layout, rounds, threshold);
-    if number != 0 {
-        return number;
-    }
-    buffers_refusal(
-        width * height,
-        mosaic,
-        red_room,
-        green_room,
-        blue_room,
-        room,
-    )
-}
-
 // Estimate, update, rounds, by their calls, which then accept.
 fn fill_planes(
     width: usize,
@@ -211,7 +148,7 @@ pub fn finish(
 ) -> FinishAnswer
     ensures { λ r. ⌜ FinishResult (finish-call (frame width height layout (now (mosaic .entry))) rounds threshold tally (planes (now (red .entry)) (now (green .entry)) (now (blue .entry))) (now (work .entry))) r (planes (now (red .exit)) (now (green .exit)) (now (blue .exit))) (now (work .exit)) ⌝ }
 {
-    let refusal = finish_refusal(
+    let refusal = work_buffer::lent_refusal(
         width,
         height,
         layout,

@@ -12,6 +12,7 @@ use Rattle.questions.specs.Questions.{Question, ceiling, ask}
 use Rattle.questions.proofs.Asking.{all-yes-both, ask-zero}
 use Rattle.questions.proofs.Answering.{left-no, left-yes}
 use Rattle.turns.specs.Frames.{Planes, lengths}
+use Rattle.work_buffer.specs.Lent.{buffer-questions}
 use Rattle.packet.specs.Packet.{fields-of, samples-of}
 use Rattle.packet.specs.Calls.{fields-questions, store-questions, filling-questions, mosaic-questions, MosaicResult}
 use Rattle.packet.specs.declared.Fields.{Fields}
@@ -19,7 +20,7 @@ use Rattle.packet.specs.declared.ReadPacket.{ReadPacket}
 use Rattle.packet.specs.declared.ReadPacket.the-variants.{Sound, Refused}
 use Rattle.packet.proofs.Stores.{SoundPacket}
 use Rattle.finishing.specs.Finishing.{finish-lists}
-use Rattle.finishing.specs.Calls.{finish-call, buffer-questions, finish-questions, FinishResult}
+use Rattle.finishing.specs.Calls.{finish-call, finish-questions, FinishResult}
 use Rattle.finishing.specs.declared.Tally.{Tally}
 use Rattle.finishing.specs.declared.FinishAnswer.{FinishAnswer}
 use Rattle.printing.specs.Text.{page, refusal, Written}

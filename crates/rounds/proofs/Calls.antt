@@ -1,6 +1,6 @@
 -- The laws of the rounds call: what an accepted call knows, and what it leaves. Assumes nothing.
 use mathlib.Core.Path.{_≡_, refl, sym, _∙_, ap}
-use mathlib.Core.List.{List}
+use mathlib.Core.List.{List, _++_}
 use Prim.Native.Nat.{ℕ, _*_, _-_, _≤_}
 use native.Mathlib.Omega.{arith}
 use lib.IntN.{ℤ}
@@ -10,13 +10,14 @@ use Rattle.questions.specs.Questions.{ceiling, ask, shape-questions, settings-q
 use Rattle.questions.proofs.Asking.{AllYes, all-yes, all-yes-split, shape-is}
 use Rattle.questions.proofs.Answering.{answer-no, answer-yes, left-no, left-yes}
 use Rattle.turns.specs.Layout.{red-row, red-column}
-use Rattle.turns.specs.Frames.{Frame, frame, Planes, planes, listing, listings, plane-of}
+use Rattle.turns.specs.Frames.{Frame, frame, Planes, planes, lengths, listing, listings, plane-of}
 use Rattle.turns.proofs.Frames.{listing-plane-of, listing-agree}
 use Rattle.work_buffer.specs.Places.{Workable}
+use Rattle.work_buffer.specs.Lent.{buffer-questions}
 use Rattle.work_buffer.specs.Buffer.{with-plane, zeroed}
 use Rattle.work_buffer.proofs.Buffer.{length-with-plane, zeroed-with-plane}
 use Rattle.rounds.specs.Rounds.{rewritten, rounds}
-use Rattle.rounds.specs.Calls.{buffer-questions, rounds-questions, number-of-answer, rounds-lists, RoundsResult}
+use Rattle.rounds.specs.Calls.{planes-questions, rounds-questions, number-of-answer, rounds-lists, RoundsResult}
 use Rattle.rounds.specs.declared.RoundsAnswer.the-variants.{Accepted, Refused}
 use Rattle.rounds.proofs.Repeated.{no-round}
 
@@ -26,9 +27,9 @@ module _ (f : Frame) (rounds threshold : ℕ) (given : Planes (List ℕ)) (room 
   count = f .width * f .height
 
   -- all questions are answered yes
-  known : AllYes (frame-questions ceiling (f .width) (f .height) (f .layout) rounds threshold) × AllYes (buffer-questions count (f .samples) given room)
+  known : AllYes (frame-questions ceiling (f .width) (f .height) (f .layout) rounds threshold) × AllYes (buffer-questions count (f .samples) (lengths given) room ++ planes-questions given)
   known =
-      all-yes-split (frame-questions ceiling (f .width) (f .height) (f .layout) rounds threshold) (buffer-questions count (f .samples) given room)
+      all-yes-split (frame-questions ceiling (f .width) (f .height) (f .layout) rounds threshold) (buffer-questions count (f .samples) (lengths given) room ++ planes-questions given)
       (all-yes (rounds-questions f rounds threshold given room) tt n e z)
 
   pub workable : Workable (f .width) (f .height) (f .samples) (given .green) room

@@ -1,33 +1,26 @@
 -- The rounds call: what it asks, and what its answer, its planes and its work buffer are then. Assumes nothing.
 use mathlib.Core.Path.{_≡_}
 use mathlib.Core.List.{List, [], _∷_, _++_}
-use Prim.Native.Nat.{ℕ, _*_}
-use lib.Dec.{eqb, leb}
+use Prim.Native.Nat.{ℕ}
 use lib.IntN.{ℤ}
 use lib.ListN.{length}
-use Rattle.questions.specs.Questions.{Question, question, ceiling, all-at-most, frame-questions, samples-question}
+use Rattle.questions.specs.Questions.{Question, question, ceiling, all-at-most}
 use Rattle.questions.specs.Answers.{Answered, if-accepted}
-use Rattle.turns.specs.Frames.{Frame, Planes, planes, listing, plane-of}
+use Rattle.turns.specs.Frames.{Frame, Planes, planes, lengths, listing, plane-of}
 use Rattle.work_buffer.specs.Buffer.{zeroed}
+use Rattle.work_buffer.specs.Lent.{lent-questions}
 use Rattle.rounds.specs.Rounds.{rounds}
 use Rattle.rounds.specs.declared.RoundsAnswer.{RoundsAnswer}
 use Rattle.rounds.specs.declared.RoundsAnswer.the-variants as rounds-answer
 
 -- ---- the questions, in document 01's order
--- 6 of the mosaic and 7 of the three planes, where a plane has `count` samples, 8, 9, and 10 of the three planes
-abbrev pub buffer-questions : ℕ → List ℕ → Planes (List ℕ) → ℕ → List Question
-buffer-questions count mosaic given room =
-    question 6 (eqb (length mosaic) count)
-    ∷ question 7 (eqb (length (given .red)) count) ∷ question 7 (eqb (length (given .green)) count) ∷ question 7 (eqb (length (given .blue)) count)
-    ∷ question 8 (leb (8 * count) room)
-    ∷ samples-question ceiling mosaic
-    ∷ question 10 (all-at-most ceiling (given .red)) ∷ question 10 (all-at-most ceiling (given .green)) ∷ question 10 (all-at-most ceiling (given .blue))
-    ∷ []
+-- 10 of the three planes
+abbrev pub planes-questions : Planes (List ℕ) → List Question
+planes-questions given = question 10 (all-at-most ceiling (given .red)) ∷ question 10 (all-at-most ceiling (given .green)) ∷ question 10 (all-at-most ceiling (given .blue)) ∷ []
 
--- 1 to 5, and then those
+-- 1 to 9, and then those
 abbrev pub rounds-questions : Frame → ℕ → ℕ → Planes (List ℕ) → ℕ → List Question
-rounds-questions f rounds threshold given room =
-    frame-questions ceiling (f .width) (f .height) (f .layout) rounds threshold ++ buffer-questions (f .width * f .height) (f .samples) given room
+rounds-questions f rounds threshold given room = lent-questions f rounds threshold (lengths given) room ++ planes-questions given
 
 -- document 01's number of an answer
 abbrev pub number-of-answer : RoundsAnswer → ℕ

@@ -10,7 +10,7 @@ ghost use Rattle.lines.specs.Lines.{value};
 ghost use Rattle.work_buffer.specs.Places.{place, sample, put, Seconds, SecondRows, Narrow, Workable};
 ghost use Rattle.work_buffer.specs.Buffer.{with-plane, zeroed};
 ghost use Rattle.rounds.specs.Rounds.{limit-of, round, after-rounds, rewritten};
-ghost use Rattle.rounds.specs.Calls.{buffer-questions, rounds-questions, number-of-answer, rounds-lists, RoundsResult};
+ghost use Rattle.rounds.specs.Calls.{planes-questions, rounds-questions, number-of-answer, rounds-lists, RoundsResult};
 
 // What the rounds call answers.
 pub enum RoundsAnswer {
@@ -151,37 +151,10 @@ fn rewrite(
     store(work, plane);
 }
 
-// Questions 6, 7, 8, 9 and 10, where a plane has `count` samples and the work buffer has room for so many numbers.
-fn buffers_refusal(
-    count: usize,
-    mosaic: &[u16],
-    red: &[u16],
-    green: &[u16],
-    blue: &[u16],
-    room: usize,
-) -> u32
-    requires { ⌜ count ≤ 4194304 ⌝ }
-    ensures { λ r. ⌜ r ≡ ask (buffer-questions count (now (mosaic .entry)) (planes (now (red .entry)) (now (green .entry)) (now (blue .entry))) room) ⌝ }
+// Question 10 of the three planes.
+fn planes_refusal(red: &[u16], green: &[u16], blue: &[u16]) -> u32
+    ensures { λ r. ⌜ r ≡ ask (planes-questions (planes (now (red .entry)) (now (green .entry)) (now (blue .entry)))) ⌝ }
 {
-    if mosaic.len() != count {
-        return 6;
-    }
-    if red.len() != count {
-        return 7;
-    }
-    if green.len() != count {
-        return 7;
-    }
-    if blue.len() != count {
-        return 7;
-    }
-    let needed = 8 * count;
-    if room < needed {
-        return 8;
-    }
-    if !questions::samples_within(4095, mosaic) {
-        return 9;
-    }
     if !questions::samples_within(4095, red) {
         return 10;
     }
@@ -209,11 +182,22 @@ fn rounds_refusal(
 ) -> u32
     ensures { λ r. ⌜ r ≡ ask (rounds-questions (frame width height layout (now (mosaic .entry))) rounds threshold (planes (now (red .entry)) (now (green .entry)) (now (blue .entry))) room) ⌝ }
 {
-    let number = questions::frame(4095, width, height, layout, rounds, threshold);
+    let number = work_buffer::lent_refusal(
+        width,
+        height,
+        layout,
+        rounds,
+        threshold,
+        mosaic,
+        red.len(),
+        green.len(),
+        blue.len(),
+        room,
+    );
     if number != 0 {
         return number;
     }
-    buffers_refusal(width * height, mosaic, red, green, blue, room)
+    planes_refusal(red, green, blue)
 }
 
 // Red, and then blue, whose places have the other parities; and the work buffer zeroed.

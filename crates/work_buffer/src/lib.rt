@@ -1,4 +1,5 @@
 // Inner: the work buffer that the update and the rounds are lent. Samples go in and out as signed numbers, and at last it is zeroed.
+// And the questions that the rounds and the finishing call share.
 ghost use mathlib.Core.Path.{_≡_};
 ghost use Prim.Native.Nat.{_≤_};
 ghost use lib.Dec.{T};
@@ -6,6 +7,9 @@ ghost use lib.IntN.{pos, natAbs};
 ghost use lib.ListN.{length};
 ghost use lib.Signed.{nonNeg};
 ghost use Rattle.integers.specs.Lists.{overwrite};
+ghost use Rattle.questions.specs.Questions.{ask};
+ghost use Rattle.turns.specs.Frames.{frame, planes};
+ghost use Rattle.work_buffer.specs.Lent.{buffer-questions, lent-questions};
 
 // A sample as a signed number, and back.
 pub fn widened(x: u16) -> i32
@@ -31,4 +35,67 @@ pub fn zero(work: &mut [i32], n: usize)
         work[k] = 0;
         k += 1;
     }
+}
+
+// Questions 6, 7, 8 and 9, where a plane has `count` samples.
+fn buffers_refusal(
+    count: usize,
+    mosaic: &[u16],
+    red_room: usize,
+    green_room: usize,
+    blue_room: usize,
+    room: usize,
+) -> u32
+    requires { ⌜ count ≤ 4194304 ⌝ }
+    ensures { λ r. ⌜ r ≡ ask (buffer-questions count (now (mosaic .entry)) (planes «red_room» «green_room» «blue_room») room) ⌝ }
+{
+    if mosaic.len() != count {
+        return 6;
+    }
+    if red_room != count {
+        return 7;
+    }
+    if green_room != count {
+        return 7;
+    }
+    if blue_room != count {
+        return 7;
+    }
+    let needed = 8 * count;
+    if room < needed {
+        return 8;
+    }
+    if !questions::samples_within(4095, mosaic) {
+        return 9;
+    }
+    0
+}
+
+// Questions 1 to 9.
+pub fn lent_refusal(
+    width: usize,
+    height: usize,
+    layout: u8,
+    rounds: u8,
+    threshold: u16,
+    mosaic: &[u16],
+    red_room: usize,
+    green_room: usize,
+    blue_room: usize,
+    room: usize,
+) -> u32
+    ensures { λ r. ⌜ r ≡ ask (lent-questions (frame width height layout (now (mosaic .entry))) rounds threshold (planes «red_room» «green_room» «blue_room») room) ⌝ }
+{
+    let number = questions::frame(4095, width, height, layout, rounds, threshold);
+    if number != 0 {
+        return number;
+    }
+    buffers_refusal(
+        width * height,
+        mosaic,
+        red_room,
+        green_room,
+        blue_room,
+        room,
+    )
 }

@@ -16,22 +16,22 @@ Given s =
     let a = s .args in
     finish-call (frame (a .width) (a .height) (a .layout) (now (a .mosaic))) (a .rounds) (a .threshold) (a .tally) (planes (now (a .red)) (now (a .green)) (now (a .blue))) (now (a .work))
 
-finish-refusal-requires : tie.Need-finish-refusal-requires
-finish-refusal-requires c κs = search needs
+lent-refusal-requires : tie.Need-lent-refusal-requires
+lent-refusal-requires c κs = search needs
 
 next-requires : tie.Need-next-requires
 next-requires c κs = search needs
 
 returns : tie.Need-returns
 returns c =
-    let t = c .before .before .finish-refusal in
+    let t = c .before .before .lent-refusal in
     let s = c .before .before .before .before .before .before .before in
     finish-no (Given s) (t .result) (t .ensures) (λ z. omega (arith, z, c .before .if1 .taken)) (c .next .ensures)
 
 fill-planes-requires : tie.Need-fill-planes-requires
 fill-planes-requires c κs =
     let e = c .before .before .before .before in
-    omega (arith, e .if1 .left) ∙ e .before .finish-refusal .ensures
+    omega (arith, e .if1 .left) ∙ e .before .lent-refusal .ensures
 
 next-requires-2 : tie.Need-next-requires-2
 next-requires-2 c κs = search needs
@@ -52,7 +52,7 @@ returns-2 : tie.Need-returns-2
 returns-2 c =
     let done = c .before .before .before .before .before .before .before .before in
     let e = done .before .before .before .before .before in
-    let t = e .before .finish-refusal in
+    let t = e .before .lent-refusal in
     let s = e .before .before .before .before .before .before in
     finish-yes (Given s) (t .result) (t .ensures) (omega (arith, e .if1 .left)) (c .next2 .ensures) (done .fill-planes .ensures .0) (done .fill-planes .ensures .1)
 
@@ -60,7 +60,7 @@ pub finish-spec : {M : Type 1} → statement M
 finish-spec =
     tie.close
     (tie.spec
-    finish-refusal-requires
+    lent-refusal-requires
     next-requires
     returns
     fill-planes-requires

@@ -1,44 +1,35 @@
--- `rounds::rounds_refusal` meets its contract: 1 to 5, and then 6 to 10.
+-- `rounds::rounds_refusal` meets its contract: 1 to 9, and then 10.
 -- Assumes nothing.
-use native.Mathlib.Omega.{arith}
+use mathlib.Core.List.{List}
 use borrow.Author.Needs.{needs}
-use Rattle.questions.specs.Questions.{ceiling, shape-questions, settings-questions, frame-questions}
-use Rattle.questions.proofs.Asking.{ask-first, ask-later, AllYes, all-yes, all-yes-split, Shape, shape-is}
+use denote.Ref.{now}
+use lib.ListN.{length}
+use Rattle.questions.specs.Questions.{Question}
+use Rattle.questions.proofs.Asking.{ask-first, ask-later, all-yes}
+use Rattle.turns.specs.Frames.{frame, planes}
+use Rattle.work_buffer.specs.Lent.{lent-questions}
 use Rattle.rounds.proofs.rounds_refusal.Statement.{statement}
 use Rattle.rounds.proofs.rounds_refusal.Tie as tie
 
-frame-requires : tie.Need-frame-requires
-frame-requires c κs = search needs
+-- those that are asked first
+abbrev First : tie.Start → List Question
+First s =
+    let a = s .args in
+    lent-questions (frame (a .width) (a .height) (a .layout) (now (a .mosaic))) (a .rounds) (a .threshold) (planes (length (now (a .red))) (length (now (a .green))) (length (now (a .blue)))) (a .room)
+
+lent-refusal-requires : tie.Need-lent-refusal-requires
+lent-refusal-requires c κs = search needs
 
 returns : tie.Need-returns
-returns c =
-    let a = c .before .before .before .before .before .before .args in
-    ask-first (frame-questions ceiling (a .width) (a .height) (a .layout) (a .rounds) (a .threshold)) _ _ (c .before .frame .ensures) (c .if1 .taken)
+returns c = ask-first (First (c .before .before .before .before .before .before)) _ _ (c .before .lent-refusal .ensures) (c .if1 .taken)
 
--- where they are answered yes
-known : (c : tie.Else1)
-    → let a = c .before .before .before .before .before .before .args in AllYes (frame-questions ceiling (a .width) (a .height) (a .layout) (a .rounds) (a .threshold))
-known c =
-    let a = c .before .before .before .before .before .before .args in
-    all-yes (frame-questions ceiling (a .width) (a .height) (a .layout) (a .rounds) (a .threshold)) tt _ (c .before .frame .ensures) (c .if1 .left)
-
-shape : (c : tie.Else1) → let a = c .before .before .before .before .before .before .args in Shape (a .width) (a .height) (a .layout)
-shape c =
-    let a = c .before .before .before .before .before .before .args in
-    shape-is (a .width) (a .height) (a .layout) (all-yes-split (shape-questions (a .width) (a .height) (a .layout)) (settings-questions ceiling (a .rounds) (a .threshold)) (known c) .0)
-
-mul-buffers-refusal : tie.Need-mul-buffers-refusal
-mul-buffers-refusal c = record { fits = omega (arith, shape c .area) }
-
-buffers-refusal-requires : tie.Need-buffers-refusal-requires
-buffers-refusal-requires c κs = shape c .area
+planes-refusal-requires : tie.Need-planes-refusal-requires
+planes-refusal-requires c κs = search needs
 
 returns-2 : tie.Need-returns-2
 returns-2 c =
-    let a = c .before .before .before .before .before .before .before .args in
-    ask-later (frame-questions ceiling (a .width) (a .height) (a .layout) (a .rounds) (a .threshold)) _ _ (known (c .before)) (c .buffers-refusal .ensures)
+    let s = c .before .before .before .before .before .before .before in
+    ask-later (First s) _ _ (all-yes (First s) tt _ (c .before .before .lent-refusal .ensures) (c .before .if1 .left)) (c .planes-refusal .ensures)
 
 pub rounds-refusal-spec : {M : Type 1} → statement M
-rounds-refusal-spec =
-    tie.close
-    (tie.spec frame-requires returns mul-buffers-refusal buffers-refusal-requires returns-2)
+rounds-refusal-spec = tie.close (tie.spec lent-refusal-requires returns planes-refusal-requires returns-2)

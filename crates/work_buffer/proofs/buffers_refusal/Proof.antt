@@ -1,11 +1,11 @@
--- `finishing::buffers_refusal` meets its contract: 6, 7, 8 and 9.
+-- `work_buffer::buffers_refusal` meets its contract: 6, 7, 8 and 9.
 -- Assumes nothing.
 use mathlib.Core.Bool.{true, false}
 use Rattle.integers.proofs.Tests.{tested}
 use Rattle.questions.proofs.Asking.{asking}
 use borrow.Author.Needs.{needs}
-use Rattle.finishing.proofs.buffers_refusal.Statement.{statement}
-use Rattle.finishing.proofs.buffers_refusal.Tie as tie
+use Rattle.work_buffer.proofs.buffers_refusal.Statement.{statement}
+use Rattle.work_buffer.proofs.buffers_refusal.Tie as tie
 
 returns : tie.Need-returns
 returns c = search asking depth 24

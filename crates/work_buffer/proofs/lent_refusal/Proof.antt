@@ -1,11 +1,11 @@
--- `finishing::finish_refusal` meets its contract: 1 to 5, and then 6 to 9.
+-- `work_buffer::lent_refusal` meets its contract: 1 to 5, and then 6 to 9.
 -- Assumes nothing.
 use native.Mathlib.Omega.{arith}
 use borrow.Author.Needs.{needs}
 use Rattle.questions.specs.Questions.{ceiling, shape-questions, settings-questions, frame-questions}
 use Rattle.questions.proofs.Asking.{ask-first, ask-later, AllYes, all-yes, all-yes-split, Shape, shape-is}
-use Rattle.finishing.proofs.finish_refusal.Statement.{statement}
-use Rattle.finishing.proofs.finish_refusal.Tie as tie
+use Rattle.work_buffer.proofs.lent_refusal.Statement.{statement}
+use Rattle.work_buffer.proofs.lent_refusal.Tie as tie
 
 frame-requires : tie.Need-frame-requires
 frame-requires c κs = search needs
@@ -38,7 +38,7 @@ returns-2 c =
     let a = c .before .before .before .before .args in
     ask-later (frame-questions ceiling (a .width) (a .height) (a .layout) (a .rounds) (a .threshold)) _ _ (known (c .before)) (c .buffers-refusal .ensures)
 
-pub finish-refusal-spec : {M : Type 1} → statement M
-finish-refusal-spec =
+pub lent-refusal-spec : {M : Type 1} → statement M
+lent-refusal-spec =
     tie.close
     (tie.spec frame-requires returns mul-buffers-refusal buffers-refusal-requires returns-2)
