@@ -9,160 +9,172 @@ extern "C" {
 #endif
 
 /*
- * A packet's refusal number, 0 for sound.
+ * The burning-zone colour engine, for C. Link target/staticlib/libdemosaic_c.a.
  *
- * The store's end is the packet's end; older bytes may precede it. A packet is 2 * width * height sample
- * bytes, then a trailer of 12 bytes: width (2), height (2), layout (1), rounds (1), threshold (2), distance
- * back (4). Every number has its low byte first. The distance runs from the packet's end to its first sample.
+ * Answers. A call that can refuse answers a number: 0 if it was accepted, else the number of the first question that
+ * is answered no. A refused call leaves every buffer as it was, and every number behind a pointer too. What a call
+ * hands back beside its number stands behind pointers, and is written only where the answer is 0.
  *
- * These questions are asked in this order; the first one answered no gives the number:
+ * Questions. Each call asks those about what it was given, in this order; its comment lists them.
  *
+ *   16  the turn is 0 to 7?
  *   11  the store has 12 bytes or more?
- *    1  the width is 2 to 2,048?
- *    2  the height is 2 to 2,048?
+ *    1  the width is 2 to 2,048? (1 to 2,048 in the filter bank)
+ *    2  the height is 2 to 2,048? (1 to 2,048 in the filter bank)
  *    3  the layout is 0 to 3?
  *    4  the rounds are at most 64?
  *    5  the threshold is at most 4,095?
- *   12  the distance equals 2 * width * height + 12?
- *   13  the distance lies within the store?
- *    9  the samples are at most 4,095 each?
- *
- * The call reads `length` bytes from `store` and nothing else, writes nothing and keeps nothing.
- *
- * What the caller has to keep: `store` points to `length` readable bytes and is not null, even where
- * `length` is 0.
- */
-uint32_t demosaic_packet_refusal(const uint8_t *store, size_t length);
-
-/*
- * The filter bank. Planes and bands are width * height numbers each, row by row; every buffer is a pointer and
- * how many numbers it has. Width and height are from 1 on here. Each call answers 0, or the number of the first
- * question answered no; then no buffer was touched.
- *
- *    1  the width is 1 to 2,048?
- *    2  the height is 1 to 2,048?
- *    6  what is given (the plane; each of the four bands) has exactly width * height numbers?
- *    7  what is filled (each of the four bands; the sums) has exactly width * height numbers?
- *   15  the values are in range: -8,190..8,190 to split, -131,040..131,040 to join?
- *
- * demosaic_split fills band 1 (low along rows and columns), band 2 (high along rows, low along columns), band 3
- * (the reverse) and band 4 (high along both), 16 times the paper's. demosaic_join fills the sums of the four
- * bands, 1,024 times the paper's, each within -75,479,040..75,479,040. Joining what was split gives exactly
- * 1,024 times the plane.
- *
- * demosaic_bring_back makes a sample of a sum: (sum + 512) divided by 1,024, the fraction dropped downward, then
- * clipped to 0..4,095. It takes every int32_t.
- *
- * What the caller has to keep: each pointer is not null and points to as many numbers as are said, and no buffer
- * that is filled overlaps another buffer of the same call.
- */
-uint32_t demosaic_split(size_t width, size_t height, const int32_t *plane, size_t plane_length,
-                        int32_t *band1, size_t band1_length, int32_t *band2, size_t band2_length,
-                        int32_t *band3, size_t band3_length, int32_t *band4, size_t band4_length);
-uint32_t demosaic_join(size_t width, size_t height, const int32_t *band1, size_t band1_length,
-                       const int32_t *band2, size_t band2_length, const int32_t *band3, size_t band3_length,
-                       const int32_t *band4, size_t band4_length, int32_t *sums, size_t sums_length);
-uint16_t demosaic_bring_back(int32_t sum);
-
-/*
- * The first estimates of a mosaic, and the update of its green. A mosaic and its planes are width * height
- * samples each, row by row. Red sits on even rows and even columns in layout 0, even rows and odd columns in 1,
- * odd rows and even columns in 2, odd and odd in 3; blue has the other parity in both; all else is green. Each
- * call answers 0, or the number of the first question answered no; then no buffer was touched.
- *
- *    1  the width is 2 to 2,048?
- *    2  the height is 2 to 2,048?
- *    3  the layout is 0 to 3?
- *    6  what is given (the mosaic; in the update also green) has exactly width * height samples?
- *    7  what is filled (the three planes of the estimate) has exactly width * height samples each?
- *    8  the work buffer (of the update) has at least 8 * width * height numbers?
- *    9  the mosaic's samples are at most 4,095 each?
- *   10  the samples of the green that is given (to the update) are at most 4,095 each?
- *
- * demosaic_estimate fills red, green and blue; observed samples are kept.
- *
- * demosaic_update rewrites green in place, at the red and the blue places; samples at green places stay. It
- * needs the mosaic, the green of the estimate, and a work buffer, whose first 8 * width * height numbers hold 0
- * afterwards and whose rest is untouched.
- *
- * What the caller has to keep: each pointer is not null and points to as many numbers as are said, and no buffer
- * that is filled or rewritten overlaps another buffer of the same call.
- */
-uint32_t demosaic_estimate(size_t width, size_t height, uint8_t layout,
-                           const uint16_t *mosaic, size_t mosaic_length,
-                           uint16_t *red, size_t red_length, uint16_t *green, size_t green_length,
-                           uint16_t *blue, size_t blue_length);
-uint32_t demosaic_update(size_t width, size_t height, uint8_t layout,
-                         const uint16_t *mosaic, size_t mosaic_length,
-                         uint16_t *green, size_t green_length, int32_t *work, size_t work_length);
-
-/*
- * The rounds of a frame: red and blue are rewritten in place, green stays. The call needs the mosaic, the three
- * planes (of the estimate, green after the update), how many rounds, the threshold T, and a work buffer. Each
- * round splits a colour, holds its details within 16 * T of green's, joins and brings back, and then puts the
- * observed samples in. The call answers 0, or the number of the first question answered no; then no buffer was
- * touched.
- *
- *    1  the width is 2 to 2,048?
- *    2  the height is 2 to 2,048?
- *    3  the layout is 0 to 3?
- *    4  the rounds are at most 64?
- *    5  the threshold is at most 4,095?
- *    6  the mosaic has exactly width * height samples?
- *    7  the three planes have exactly width * height samples each?
+ *   12  the packet's distance back is 2 * width * height + 12?
+ *   13  the distance back lies within the store?
+ *    6  what is given has exactly width * height numbers?
+ *    7  what is filled has exactly width * height numbers? (in the rounds: each of the three planes)
  *    8  the work buffer has at least 8 * width * height numbers?
- *    9  the mosaic's samples are at most 4,095 each?
- *   10  the planes' samples are at most 4,095 each?
+ *    9  the samples of the mosaic, or of the packet, are at most 4,095 each?
+ *   10  the samples of the planes that are given are at most 4,095 each?
+ *   15  the values are in the filter bank's range?
+ *   14  the buffer is long enough for the packet?
  *
- * With 0 rounds no plane changes. The work buffer's first 8 * width * height numbers hold 0 afterwards, with 0
- * rounds too, and its rest is untouched.
+ * Buffers. Each is a pointer and how many numbers it has (never how many bytes, but for bytes). Mosaics, planes and
+ * bands are width * height numbers, row by row. The work buffer may hold anything before; afterwards its first
+ * 8 * width * height numbers hold 0 and the rest is untouched.
  *
- * What the caller has to keep: each pointer is not null and points to as many numbers as are said, and neither
- * red, nor blue, nor the work buffer overlaps another buffer of the call.
+ * What the caller has to keep, since no question can ask it:
+ *   - each pointer is not null, even where its length is 0, aligned for its type, and valid for its length;
+ *   - what a call writes (buffers and numbers behind pointers that are not const) overlaps nothing else that the call
+ *     is given, and nobody else reads or writes it meanwhile;
+ *   - a call may need 160 KiB of stack.
+ * The calls keep nothing and share nothing: several threads may call at once, each with buffers of its own.
  */
-uint32_t demosaic_rounds(size_t width, size_t height, uint8_t layout, uint8_t rounds, uint16_t threshold,
-                         const uint16_t *mosaic, size_t mosaic_length,
-                         uint16_t *red, size_t red_length, const uint16_t *green, size_t green_length,
-                         uint16_t *blue, size_t blue_length, int32_t *work, size_t work_length);
 
 /*
- * The finishing of a frame: estimate, update and rounds, into three planes. It needs the mosaic, how many rounds, the
- * threshold, three planes to fill, and a work buffer. The call answers 0, or the number of the first question answered
- * no; then no buffer was touched.
+ * ---- Packets
  *
- *    1  the width is 2 to 2,048?
- *    2  the height is 2 to 2,048?
- *    3  the layout is 0 to 3?
- *    4  the rounds are at most 64?
- *    5  the threshold is at most 4,095?
- *    6  the mosaic has exactly width * height samples?
- *    7  the three planes have exactly width * height samples each?
- *    8  the work buffer has at least 8 * width * height numbers?
- *    9  the mosaic's samples are at most 4,095 each?
+ * A packet is 2 * width * height sample bytes, then a trailer of 12 bytes: width (2), height (2), layout (1),
+ * rounds (1), threshold (2), distance back (4). Every number has its low byte first. The distance runs from the
+ * packet's end to its first sample. A store's end is its packet's end; older bytes may precede the packet.
+ */
+
+/* A packet's refusal number, 0 for sound. Asks 11, 1, 2, 3, 4, 5, 12, 13, 9. */
+uint32_t demosaic_packet_refusal(const uint8_t *store, size_t store_len);
+
+/* What a packet says of its frame. Asks the same. */
+uint32_t demosaic_packet_fields(const uint8_t *store, size_t store_len, size_t *width, size_t *height,
+                                uint8_t *layout, uint8_t *rounds, uint16_t *threshold);
+
+/* Fills `samples` with a packet's samples. Asks 11, 1, 2, 3, 4, 5, 12, 13, 7, 9. */
+uint32_t demosaic_packet_samples(const uint8_t *store, size_t store_len, uint16_t *samples, size_t samples_len);
+
+/*
+ * Writes a packet into the first bytes of `out`, 2 * width * height + 12 of them, and how many into `written`; the
+ * bytes after them stay. Asks 1, 2, 3, 4, 5, 6, 9, 14.
+ */
+uint32_t demosaic_packet_write(size_t width, size_t height, uint8_t layout, uint8_t rounds, uint16_t threshold,
+                               const uint16_t *samples, size_t samples_len, uint8_t *out, size_t out_len,
+                               size_t *written);
+
+/*
+ * Whether the packet of store `a` repeats that of store `b`: `same` becomes 1 where width, height, layout and samples
+ * agree, else 0. Asks 11, 1, 2, 3, 4, 5, 12, 13, 9 of `a`, then of `b`. The two may be one store.
+ */
+uint32_t demosaic_packet_repeats(const uint8_t *a, size_t a_len, const uint8_t *b, size_t b_len, uint8_t *same);
+
+/*
+ * ---- Turns
  *
- * The work buffer's first 8 * width * height numbers hold 0 afterwards, and its rest is untouched. What planes and work
- * buffer held before does not matter.
+ * Turn t is 0 to 7. From 4 on, rows and columns are exchanged first; then t mod 4 mirrors: 0 none, 1 left-right,
+ * 2 top-bottom, 3 both. A head that reads its chip out in mirrored order gives a turned frame; the turn that turns it
+ * back is the turn itself, but for 5 and 6, which turn each other back. A turned frame is finished with its turned
+ * width, height and layout.
+ */
+
+/* Fills `out` with the turned samples, of a mosaic or of a plane. Asks 16, 1, 2, 3, 6, 7. */
+uint32_t demosaic_turn(uint8_t turn, size_t width, size_t height, uint8_t layout, const uint16_t *samples,
+                       size_t samples_len, uint16_t *out, size_t out_len);
+
+/* The turned width, height and layout. Asks 16, 1, 2, 3. */
+uint32_t demosaic_turned_shape(uint8_t turn, size_t width, size_t height, uint8_t layout, size_t *turned_width,
+                               size_t *turned_height, uint8_t *turned_layout);
+
+/* The one turn that does what `turn` and then `next` do. Asks 16 of both. */
+uint32_t demosaic_then_another(uint8_t turn, uint8_t next, uint8_t *single);
+
+/*
+ * ---- Finishing
  *
- * A frame that was turned, with its layout turned along, has the same answer, and each of its planes is the frame's
- * plane turned alike.
- *
- * What the caller has to keep: each pointer is not null and points to as many numbers as are said, and none of the
- * planes and the work buffer overlaps another buffer of the call.
+ * Red sits on even rows and even columns in layout 0, even rows and odd columns in 1, odd rows and even columns in 2,
+ * odd and odd in 3, counted from 0; blue has the other parity in both; all else is green.
+ */
+
+/*
+ * Finishes a frame into three planes, which may hold anything before. Asks 1, 2, 3, 4, 5, 6 (the mosaic), 7 (each
+ * plane), 8, 9. A frame that was turned has the same answer, and each of its planes is the frame's plane turned alike.
  */
 uint32_t demosaic_finish(size_t width, size_t height, uint8_t layout, uint8_t rounds, uint16_t threshold,
-                         const uint16_t *mosaic, size_t mosaic_length,
-                         uint16_t *red, size_t red_length, uint16_t *green, size_t green_length,
-                         uint16_t *blue, size_t blue_length, int32_t *work, size_t work_length);
+                         const uint16_t *mosaic, size_t mosaic_len, uint16_t *red, size_t red_len,
+                         uint16_t *green, size_t green_len, uint16_t *blue, size_t blue_len,
+                         int32_t *work, size_t work_len);
 
 /*
- * The tally: frames finished, frames refused, rounds run. The caller holds the three counts, at first 0, and after each
- * finishing call takes the next of each: an accepted frame (number 0) adds 1 to the first and its rounds to the third, a
- * refused one adds 1 to the second only. Each count stops at 4,294,967,295. `number` is what demosaic_finish answered,
- * `rounds` what it was given.
+ * The tally: frames finished, frames refused, rounds run. The caller holds the three counts, at first 0, and takes the
+ * next of each after every finishing call: an accepted frame (number 0) adds 1 to the first and its rounds to the
+ * third, a refused one adds 1 to the second only. Each count stops at 4,294,967,295. `number` is what demosaic_finish
+ * answered, `rounds` what it was given.
  */
 uint32_t demosaic_tally_finished(uint32_t before, uint32_t number);
 uint32_t demosaic_tally_refused(uint32_t before, uint32_t number);
 uint32_t demosaic_tally_rounds(uint32_t before, uint32_t number, uint8_t rounds);
+
+/*
+ * ---- The parts of finishing, one by one
+ */
+
+/* Fills red, green and blue with the first estimates; observed samples are kept. Asks 1, 2, 3, 6 (the mosaic), 7, 9. */
+uint32_t demosaic_estimate(size_t width, size_t height, uint8_t layout, const uint16_t *mosaic, size_t mosaic_len,
+                           uint16_t *red, size_t red_len, uint16_t *green, size_t green_len,
+                           uint16_t *blue, size_t blue_len);
+
+/*
+ * Updates green, as estimated, in place: at the places of red and of blue; the others stay. Asks 1, 2, 3, 6 (the
+ * mosaic and green), 8, 9, 10 (green).
+ */
+uint32_t demosaic_update(size_t width, size_t height, uint8_t layout, const uint16_t *mosaic, size_t mosaic_len,
+                         uint16_t *green, size_t green_len, int32_t *work, size_t work_len);
+
+/*
+ * Runs the rounds on three planes: red and blue are rewritten in place, green stays. Each round splits a colour, holds
+ * its details within 16 * threshold of green's, joins and brings back, and then puts the observed samples in; with 0
+ * rounds no plane changes. Asks 1, 2, 3, 4, 5, 6 (the mosaic), 7 (each plane), 8, 9, 10 (each plane).
+ */
+uint32_t demosaic_rounds(size_t width, size_t height, uint8_t layout, uint8_t rounds, uint16_t threshold,
+                         const uint16_t *mosaic, size_t mosaic_len, uint16_t *red, size_t red_len,
+                         const uint16_t *green, size_t green_len, uint16_t *blue, size_t blue_len,
+                         int32_t *work, size_t work_len);
+
+/*
+ * ---- The filter bank
+ *
+ * Width and height are from 1 on here. Joining what was split gives exactly 1,024 times the plane.
+ */
+
+/*
+ * Splits a plane of values in -8,190..8,190 into four bands, 16 times the paper's: band 1 is low along rows and
+ * columns, band 2 high along rows and low along columns, band 3 the reverse, band 4 high along both. Asks 1, 2, 6 (the
+ * plane), 7 (each band), 15.
+ */
+uint32_t demosaic_split(size_t width, size_t height, const int32_t *plane, size_t plane_len,
+                        int32_t *band1, size_t band1_len, int32_t *band2, size_t band2_len,
+                        int32_t *band3, size_t band3_len, int32_t *band4, size_t band4_len);
+
+/*
+ * Joins four bands of values in -131,040..131,040 into sums, 1,024 times the paper's, within -75,479,040..75,479,040.
+ * Asks 1, 2, 6 (each band), 7 (the sums), 15.
+ */
+uint32_t demosaic_join(size_t width, size_t height, const int32_t *band1, size_t band1_len,
+                       const int32_t *band2, size_t band2_len, const int32_t *band3, size_t band3_len,
+                       const int32_t *band4, size_t band4_len, int32_t *sums, size_t sums_len);
+
+/* A sum brought back: (sum + 512) divided by 1,024, the fraction dropped downward, then clipped to 0..4,095. Refuses nothing. */
+uint16_t demosaic_bring_back(int32_t sum);
 
 #ifdef __cplusplus
 }

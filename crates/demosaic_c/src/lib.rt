@@ -1,19 +1,30 @@
 // What C sees of the engine: thin calls, declared in include/demosaic.h. A slice is a pointer and a length there.
 use finishing::Tally;
+use packet::Fields;
+use packet::ReadPacket;
+use packet::Repeat;
+use packet::WrittenPacket;
+use turns::Composed;
+use turns::Extent;
+use turns::Turn;
+use turns::TurnedFrame;
+use turns::TurnedLayout;
 ghost use mathlib.Core.Path.{_≡_};
 ghost use lib.ListN.{length};
 ghost use Rattle.questions.specs.Questions.{ask, ceiling};
 ghost use Rattle.questions.specs.Answers.{Numbered};
-ghost use Rattle.packet.specs.Calls.{read-questions};
+ghost use Rattle.packet.specs.Calls.{read-questions, mosaic-questions, write-questions, repeat-questions, MosaicLeaves, WriteLeaves};
 ghost use Rattle.filters.specs.Bank.{brought-back};
 ghost use Rattle.turns.specs.Frames.{frame, planes};
 ghost use Rattle.turns.specs.Frames as frames;
+ghost use Rattle.turns.specs.Turning.{then-questions, shape-turn-questions, frame-questions, TurnLeaves};
 ghost use Rattle.bank.specs.Calls.{bands, lengths, split-questions, join-questions, SplitLeaves, JoinLeaves};
 ghost use Rattle.estimate.specs.Calls.{estimate-questions, EstimateLeaves};
 ghost use Rattle.update.specs.Calls.{update-questions, UpdateLeaves};
 ghost use Rattle.rounds.specs.Calls.{rounds-questions, RoundsLeaves};
 ghost use Rattle.finishing.specs.Tally.{finished-after, refused-after, rounds-after, zero-tally};
 ghost use Rattle.finishing.specs.Calls.{finish-call, FinishNumber};
+ghost use Rattle.demosaic_c.specs.Pointers.{fields, shape, places-of, FieldsLeaves, LengthLeaves, RepeatLeaves, SingleLeaves, ShapeLeaves};
 
 // A packet's refusal number by the reader's questions, 0 for sound.
 #[no_mangle]
@@ -21,6 +32,168 @@ pub extern "C" fn demosaic_packet_refusal(store: &[u8]) -> u32
     ensures { λ r. ⌜ r ≡ ask (read-questions (now (store .entry))) ⌝ }
 {
     packet::packet_refusal(store)
+}
+
+// What a packet says of its frame, into five numbers; 0 or the refusal's number.
+#[no_mangle]
+pub extern "C" fn demosaic_packet_fields(
+    store: &[u8],
+    width: &mut usize,
+    height: &mut usize,
+    layout: &mut u8,
+    rounds: &mut u8,
+    threshold: &mut u16,
+) -> u32
+    ensures { λ r. ⌜ Numbered (read-questions (now (store .entry))) (FieldsLeaves (now (store .entry)) (fields (now (width .entry)) (now (height .entry)) (now (layout .entry)) (now (rounds .entry)) (now (threshold .entry))) (fields (now (width .exit)) (now (height .exit)) (now (layout .exit)) (now (rounds .exit)) (now (threshold .exit)))) r ⌝ }
+{
+    let answer = packet::read_packet(store);
+    match answer {
+        ReadPacket::Refused(number) => number,
+        ReadPacket::Sound(f) => {
+            *width = f.width;
+            *height = f.height;
+            *layout = f.layout;
+            *rounds = f.rounds;
+            *threshold = f.threshold;
+            0
+        }
+    }
+}
+
+// A packet's samples; 0 or the refusal's number.
+#[no_mangle]
+pub extern "C" fn demosaic_packet_samples(store: &[u8], samples: &mut [u16]) -> u32
+    ensures { λ r. ⌜ Numbered (mosaic-questions (now (store .entry)) (length (now (samples .entry)))) (MosaicLeaves (now (store .entry)) (now (samples .entry)) (now (samples .exit))) r ⌝ }
+{
+    let answer = packet::read_mosaic(store, samples);
+    match answer {
+        ReadPacket::Refused(number) => number,
+        ReadPacket::Sound(_) => 0,
+    }
+}
+
+// A packet into the first bytes of `out`, and how many into `written`; 0 or the refusal's number.
+#[no_mangle]
+pub extern "C" fn demosaic_packet_write(
+    width: usize,
+    height: usize,
+    layout: u8,
+    rounds: u8,
+    threshold: u16,
+    samples: &[u16],
+    out: &mut [u8],
+    written: &mut usize,
+) -> u32
+    ensures { λ r. ⌜ Numbered (write-questions (fields width height layout rounds threshold) (now (samples .entry)) (length (now (out .entry)))) (WriteLeaves (fields width height layout rounds threshold) (now (samples .entry)) (now (out .entry)) (now (out .exit)) × LengthLeaves (fields width height layout rounds threshold) (now (samples .entry)) (length (now (out .entry))) (now (written .entry)) (now (written .exit))) r ⌝ }
+{
+    let f = Fields {
+        width,
+        height,
+        layout,
+        rounds,
+        threshold,
+    };
+    let answer = packet::write_packet(f, samples, out);
+    match answer {
+        WrittenPacket::Refused(number) => number,
+        WrittenPacket::Bytes(count) => {
+            *written = count;
+            0
+        }
+    }
+}
+
+// Whether packet a repeats packet b, 1 or 0 into `same`; 0 or the refusal's number.
+#[no_mangle]
+pub extern "C" fn demosaic_packet_repeats(a: &[u8], b: &[u8], same: &mut u8) -> u32
+    ensures { λ r. ⌜ Numbered (repeat-questions (now (a .entry)) (now (b .entry))) (RepeatLeaves (now (a .entry)) (now (b .entry)) (now (same .entry)) (now (same .exit))) r ⌝ }
+{
+    let answer = packet::repeats_packet(a, b);
+    match answer {
+        Repeat::Refused(number) => number,
+        Repeat::Yes => {
+            *same = 1;
+            0
+        }
+        Repeat::No => {
+            *same = 0;
+            0
+        }
+    }
+}
+
+// The turned samples into `out`; 0 or the refusal's number.
+#[no_mangle]
+pub extern "C" fn demosaic_turn(
+    turn: u8,
+    width: usize,
+    height: usize,
+    layout: u8,
+    samples: &[u16],
+    out: &mut [u16],
+) -> u32
+    ensures { λ r. ⌜ Numbered (frame-questions turn (frame width height layout (now (samples .entry))) (length (now (out .entry)))) (TurnLeaves turn (frame width height layout (now (samples .entry))) (now (out .entry)) (now (out .exit))) r ⌝ }
+{
+    let t = Turn { number: turn };
+    let answer = turns::turn_samples(t, width, height, layout, samples, out);
+    match answer {
+        TurnedFrame::Refused(number) => number,
+        TurnedFrame::Accepted { .. } => 0,
+    }
+}
+
+// The places of a turned width or height; 0 where it was refused.
+fn places(extent: Extent) -> usize
+    ensures { λ r. ⌜ r ≡ places-of extent ⌝ }
+{
+    match extent {
+        Extent::Places(n) => n,
+        Extent::Refused(_) => 0,
+    }
+}
+
+// The turned width, height and layout, into three numbers; 0 or the refusal's number.
+#[no_mangle]
+pub extern "C" fn demosaic_turned_shape(
+    turn: u8,
+    width: usize,
+    height: usize,
+    layout: u8,
+    turned_width: &mut usize,
+    turned_height: &mut usize,
+    turned_layout: &mut u8,
+) -> u32
+    ensures { λ r. ⌜ Numbered (shape-turn-questions turn width height layout) (ShapeLeaves turn (shape width height layout) (shape (now («turned_width» .entry)) (now («turned_height» .entry)) (now («turned_layout» .entry))) (shape (now («turned_width» .exit)) (now («turned_height» .exit)) (now («turned_layout» .exit)))) r ⌝ }
+{
+    let t = Turn { number: turn };
+    let w = places(t.turned_width(width, height, layout));
+    let h = places(t.turned_height(width, height, layout));
+    let answer = t.turned_layout(width, height, layout);
+    match answer {
+        TurnedLayout::Refused(number) => number,
+        TurnedLayout::Layout(l) => {
+            *turned_width = w;
+            *turned_height = h;
+            *turned_layout = l;
+            0
+        }
+    }
+}
+
+// The one turn that does what two do, into `single`; 0 or the refusal's number.
+#[no_mangle]
+pub extern "C" fn demosaic_then_another(turn: u8, next: u8, single: &mut u8) -> u32
+    ensures { λ r. ⌜ Numbered (then-questions turn next) (SingleLeaves turn next (now (single .entry)) (now (single .exit))) r ⌝ }
+{
+    let t = Turn { number: turn };
+    let answer = t.then_another(Turn { number: next });
+    match answer {
+        Composed::Refused(number) => number,
+        Composed::Single(s) => {
+            *single = s.number;
+            0
+        }
+    }
 }
 
 // Splits a plane into four bands; 0 or the refusal's number.

@@ -78,15 +78,23 @@ ReadResult store r = Answered number-of-read (read-questions store) (read.Sound 
 abbrev pub part-read : List ℕ → List ℕ
 part-read store = if-accepted (read-questions store) (sample-part store) []
 
--- reading into a mosaic that held `before`: the answer r, and what the mosaic holds `after`
+-- reading into a mosaic that held `before`: what the mosaic holds `after`
+abbrev pub MosaicLeaves : List ℕ → List ℕ → List ℕ → Type 0
+MosaicLeaves store before after = after ≡ if-accepted (mosaic-questions store (length before)) (samples-of store) before
+
+-- and the answer r
 pub record MosaicResult (store before : List ℕ) (r : ReadPacket) (after : List ℕ) : Type 0 where
   pub answer : Answered number-of-read (mosaic-questions store (length before)) (read.Sound (fields-of store)) r
-  pub buffer : after ≡ if-accepted (mosaic-questions store (length before)) (samples-of store) before
+  pub buffer : MosaicLeaves store before after
 
--- the writer, given a buffer that held `before`: its answer r, and what the buffer holds `after`
+-- the writer, given a buffer that held `before`: what the buffer holds `after`
+abbrev pub WriteLeaves : Fields → List ℕ → List ℕ → List ℕ → Type 0
+WriteLeaves f samples before after = after ≡ if-accepted (write-questions f samples (length before)) (packet f samples ++ drop (distance f) before) before
+
+-- and its answer r
 pub record WriteResult (f : Fields) (samples before : List ℕ) (r : WrittenPacket) (after : List ℕ) : Type 0 where
   pub answer : Answered number-of-written (write-questions f samples (length before)) (written.Bytes (distance f)) r
-  pub buffer : after ≡ if-accepted (write-questions f samples (length before)) (packet f samples ++ drop (distance f) before) before
+  pub buffer : WriteLeaves f samples before after
 
 -- the repeat call
 abbrev pub RepeatResult : List ℕ → List ℕ → Repeat → Type 0

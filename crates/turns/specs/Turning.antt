@@ -61,7 +61,11 @@ accepted-as f = turned-frame.Accepted (f .width) (f .height) (f .layout)
 abbrev pub frame-questions : ℕ → Frame → ℕ → List Question
 frame-questions turn f room = turn-questions turn (f .width) (f .height) (f .layout) (length (f .samples)) room
 
--- The turning call, given frame f and a second buffer that held `before`: its answer r, and what the buffer holds `after`.
+-- the turning call, given frame f and a second buffer that held `before`: what the buffer holds `after`
+abbrev pub TurnLeaves : ℕ → Frame → List ℕ → List ℕ → Type 0
+TurnLeaves turn f before after = after ≡ if-accepted (frame-questions turn f (length before)) (turn-frame turn f .samples) before
+
+-- and its answer r
 pub record TurnResult (turn : ℕ) (f : Frame) (before : List ℕ) (r : TurnedFrame) (after : List ℕ) : Type 0 where
   pub answer : Answered number-of-frame (frame-questions turn f (length before)) (accepted-as (turn-frame turn f)) r
-  pub buffer : after ≡ if-accepted (frame-questions turn f (length before)) (turn-frame turn f .samples) before
+  pub buffer : TurnLeaves turn f before after

@@ -1,0 +1,55 @@
+-- `demosaic_c::demosaic_turned_shape` meets its contract: that of the three operations.
+-- Assumes nothing.
+use Rattle.demosaic_c.proofs.Returns.{shape-returned}
+use borrow.Author.Needs.{needs}
+use Rattle.demosaic_c.proofs.demosaic_turned_shape.Statement.{statement}
+use Rattle.demosaic_c.proofs.demosaic_turned_shape.Tie as tie
+
+turned-width-requires : tie.Need-turned-width-requires
+turned-width-requires c κs = search needs
+
+places-requires : tie.Need-places-requires
+places-requires c κs = search needs
+
+turned-height-requires : tie.Need-turned-height-requires
+turned-height-requires c κs = search needs
+
+places-requires-2 : tie.Need-places-requires-2
+places-requires-2 c κs = search needs
+
+turned-layout-requires : tie.Need-turned-layout-requires
+turned-layout-requires c κs = search needs
+
+enum-known-answer : tie.Need-enum-known-answer
+enum-known-answer c = search needs
+
+enum-known-answer-2 : tie.Need-enum-known-answer-2
+enum-known-answer-2 c = search needs
+
+returns : tie.Need-returns
+returns c =
+    let e = c .before .before .before in
+    let h = e .before in
+    let w = h .before .before in
+    shape-returned _ _ _ _ _ (w .before .turned-width .ensures) (h .before .turned-height .ensures) (e .turned-layout .ensures) _ _ (w .places .ensures) (h .places2 .ensures) _ (c .before .answer .given .1)
+
+returns-2 : tie.Need-returns-2
+returns-2 c =
+    let e = c .before .before .before in
+    let h = e .before in
+    let w = h .before .before in
+    shape-returned _ _ _ _ _ (w .before .turned-width .ensures) (h .before .turned-height .ensures) (e .turned-layout .ensures) _ _ (w .places .ensures) (h .places2 .ensures) _ (c .before .answer2 .given .1)
+
+pub demosaic-turned-shape-spec : {M : Type 1} → statement M
+demosaic-turned-shape-spec =
+    tie.close
+    (tie.spec
+    turned-width-requires
+    places-requires
+    turned-height-requires
+    places-requires-2
+    turned-layout-requires
+    enum-known-answer
+    enum-known-answer-2
+    returns
+    returns-2)

@@ -1,0 +1,243 @@
+/*
+ * A panel's program: it reads packets, refuses damaged ones, skips repeats, turns a mirrored head's frames, finishes
+ * them and keeps the tally.
+ *
+ *     panel TURN FILE...
+ *
+ * Each FILE holds a packet, which older bytes may precede. TURN is how the head's frames have to be turned to stand
+ * upright: 0 not at all, 1 for a head that reads its chip out from right to left, 2 from bottom to top, 3 both; 4 and
+ * more exchange rows and columns first. A line is printed for each FILE, and at last the tally.
+ */
+
+#include "demosaic.h"
+
+#include <inttypes.h>
+#include <stdio.h>
+#include <stdlib.h>
+#include <string.h>
+
+struct store {
+    uint8_t *bytes;
+    size_t len;
+};
+
+struct frame {
+    size_t width, height;
+    uint8_t layout, rounds;
+    uint16_t threshold;
+};
+
+/* What a frame needs to be turned and finished. */
+struct buffers {
+    uint16_t *given, *mosaic, *red, *green, *blue;
+    int32_t *work;
+};
+
+struct tally {
+    uint32_t finished, refused, rounds;
+};
+
+/* The turn of the head, the last store that was finished, and the tally. */
+struct panel {
+    uint8_t turn;
+    struct store last;
+    struct tally tally;
+};
+
+static int failed(const char *what, const char *why)
+{
+    fprintf(stderr, "panel: %s: %s\n", what, why);
+    return 0;
+}
+
+/* Reads a file of any length. One byte more than is there shows that the end was met. */
+static int load(const char *path, struct store *store)
+{
+    FILE *file = fopen(path, "rb");
+    size_t room = 0;
+    store->bytes = NULL;
+    store->len = 0;
+    if (file == NULL) {
+        return failed(path, "cannot be opened");
+    }
+    while (store->len == room) {
+        room = 2 * room + 65536;
+        uint8_t *more = realloc(store->bytes, room);
+        if (more == NULL) {
+            fclose(file);
+            return failed(path, "no memory");
+        }
+        store->bytes = more;
+        store->len += fread(more + store->len, 1, room - store->len, file);
+    }
+    int wrong = ferror(file);
+    fclose(file);
+    return wrong ? failed(path, "cannot be read") : 1;
+}
+
+static int allocate(struct buffers *b, size_t count)
+{
+    b->given = malloc(count * sizeof *b->given);
+    b->mosaic = malloc(count * sizeof *b->mosaic);
+    b->red = malloc(count * sizeof *b->red);
+    b->green = malloc(count * sizeof *b->green);
+    b->blue = malloc(count * sizeof *b->blue);
+    b->work = malloc(8 * count * sizeof *b->work);
+    return b->given != NULL && b->mosaic != NULL && b->red != NULL && b->green != NULL && b->blue != NULL &&
+           b->work != NULL;
+}
+
+static void release(struct buffers *b)
+{
+    free(b->given);
+    free(b->mosaic);
+    free(b->red);
+    free(b->green);
+    free(b->blue);
+    free(b->work);
+}
+
+static uint32_t read_frame(const struct store *store, struct frame *frame)
+{
+    return demosaic_packet_fields(store->bytes, store->len, &frame->width, &frame->height, &frame->layout,
+                                  &frame->rounds, &frame->threshold);
+}
+
+/* The packet's samples, turned; the frame's width, height and layout are turned along. */
+static uint32_t turn_frame(const struct store *store, uint8_t turn, struct frame *frame, struct buffers *b)
+{
+    struct frame given = *frame;
+    size_t count = given.width * given.height;
+    uint32_t number = demosaic_packet_samples(store->bytes, store->len, b->given, count);
+    if (number != 0) {
+        return number;
+    }
+    number = demosaic_turned_shape(turn, given.width, given.height, given.layout, &frame->width, &frame->height,
+                                   &frame->layout);
+    if (number != 0) {
+        return number;
+    }
+    return demosaic_turn(turn, given.width, given.height, given.layout, b->given, count, b->mosaic, count);
+}
+
+static uint32_t finish_frame(const struct frame *frame, struct buffers *b)
+{
+    size_t count = frame->width * frame->height;
+    return demosaic_finish(frame->width, frame->height, frame->layout, frame->rounds, frame->threshold, b->mosaic,
+                           count, b->red, count, b->green, count, b->blue, count, b->work, 8 * count);
+}
+
+/* After every frame that was finished or refused. */
+static void count_frame(struct tally *tally, uint32_t number, uint8_t rounds)
+{
+    tally->finished = demosaic_tally_finished(tally->finished, number);
+    tally->refused = demosaic_tally_refused(tally->refused, number);
+    tally->rounds = demosaic_tally_rounds(tally->rounds, number, rounds);
+}
+
+static uint64_t mean(const uint16_t *plane, size_t count)
+{
+    uint64_t sum = 0;
+    for (size_t k = 0; k < count; k++) {
+        sum += plane[k];
+    }
+    return sum / count;
+}
+
+static void print_refusal(const char *path, uint32_t number)
+{
+    printf("%s: refused %" PRIu32 "\n", path, number);
+}
+
+/* Whether the store's packet, which is sound, repeats the last one that was finished. */
+static int is_repeat(const struct panel *panel, const struct store *store)
+{
+    uint8_t same = 0;
+    if (panel->last.bytes == NULL) {
+        return 0;
+    }
+    demosaic_packet_repeats(store->bytes, store->len, panel->last.bytes, panel->last.len, &same);
+    return same == 1;
+}
+
+/* Turns and finishes the frame and prints what the panel compares. The number is that of a refusal, or 0. */
+static uint32_t show_frame(const char *path, const struct store *store, uint8_t turn, struct frame *frame,
+                           struct buffers *b)
+{
+    uint32_t number = turn_frame(store, turn, frame, b);
+    if (number == 0) {
+        number = finish_frame(frame, b);
+    }
+    if (number != 0) {
+        print_refusal(path, number);
+        return number;
+    }
+    size_t count = frame->width * frame->height;
+    printf("%s: %zu by %zu, red %" PRIu64 ", blue %" PRIu64 "\n", path, frame->width, frame->height,
+           mean(b->red, count), mean(b->blue, count));
+    return 0;
+}
+
+/* One store. It is kept as the last one, and the one before freed, where its frame was finished. */
+static int show_store(struct panel *panel, const char *path, struct store *store)
+{
+    struct frame frame;
+    struct buffers b;
+    uint32_t number = read_frame(store, &frame);
+    if (number != 0) {
+        print_refusal(path, number);
+        count_frame(&panel->tally, number, 0);
+        return 1;
+    }
+    if (is_repeat(panel, store)) {
+        printf("%s: repeats the one before\n", path);
+        return 1;
+    }
+    if (!allocate(&b, frame.width * frame.height)) {
+        release(&b);
+        return failed(path, "no memory");
+    }
+    number = show_frame(path, store, panel->turn, &frame, &b);
+    release(&b);
+    count_frame(&panel->tally, number, frame.rounds);
+    if (number == 0) {
+        struct store before = panel->last;
+        panel->last = *store;
+        *store = before;
+    }
+    return 1;
+}
+
+/* A turn as an argument: any byte, since the engine itself refuses those above 7. */
+static int read_turn(const char *text, uint8_t *turn)
+{
+    char *end = NULL;
+    unsigned long number = strtoul(text, &end, 10);
+    if (strspn(text, "0123456789") != strlen(text) || end == text || number > UINT8_MAX) {
+        return 0;
+    }
+    *turn = (uint8_t)number;
+    return 1;
+}
+
+int main(int argc, char **argv)
+{
+    struct panel panel = {0};
+    int right = 1;
+    if (argc < 2 || !read_turn(argv[1], &panel.turn)) {
+        fprintf(stderr, "usage: panel TURN FILE...\n");
+        return 2;
+    }
+    for (int k = 2; k < argc && right; k++) {
+        struct store store;
+        right = load(argv[k], &store) && show_store(&panel, argv[k], &store);
+        free(store.bytes);
+    }
+    free(panel.last.bytes);
+    if (!right) {
+        return 1;
+    }
+    printf("finished %" PRIu32 ", refused %" PRIu32 ", rounds %" PRIu32 "\n", panel.tally.finished,
+           panel.tally.refused, panel.tally.rounds);
+    return fflush(stdout) == 0 ? 0 : 1;
+}
