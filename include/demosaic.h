@@ -173,7 +173,10 @@ uint32_t demosaic_join(size_t width, size_t height, const int32_t *band1, size_t
                        const int32_t *band2, size_t band2_len, const int32_t *band3, size_t band3_len,
                        const int32_t *band4, size_t band4_len, int32_t *sums, size_t sums_len);
 
-/* A sum brought back: (sum + 512) divided by 1,024, the fraction dropped downward, then clipped to 0..4,095. Refuses nothing. */
+/*
+ * A sum brought back: (sum + 512) divided by 1,024, the fraction dropped downward, then clipped to 0..4,095. It takes
+ * every sum and refuses none.
+ */
 uint16_t demosaic_bring_back(int32_t sum);
 
 #ifdef __cplusplus

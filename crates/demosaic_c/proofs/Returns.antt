@@ -1,10 +1,9 @@
--- What the calls with pointers show where they return, having seen the answer a. Assumes nothing.
+-- What the calls that fill single numbers show where they return, having seen the answer a. Assumes nothing.
 use mathlib.Core.Path.{_≡_, refl, ap, _∙_}
 use mathlib.Core.Bool.{Bool, true, false, cond}
 use mathlib.Core.List.{List}
 use Prim.Native.Nat.{ℕ}
 use lib.ListN.{length}
-use Rattle.questions.specs.Questions.{ask}
 use Rattle.questions.specs.Answers.{Answered, Numbered}
 use Rattle.questions.proofs.Answering.{left-by}
 use Rattle.packet.specs.Packet.{distance, fields-of, repeats}

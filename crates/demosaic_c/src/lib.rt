@@ -67,7 +67,7 @@ pub extern "C" fn demosaic_packet_samples(store: &[u8], samples: &mut [u16]) -> 
 {
     let answer = packet::read_mosaic(store, samples);
     match answer {
-        ReadPacket::Refused(number) => number,
+        ReadPacket::Refused(refusal) => refusal,
         ReadPacket::Sound(_) => 0,
     }
 }
