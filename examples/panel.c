@@ -239,5 +239,5 @@ int main(int argc, char **argv)
     }
     printf("finished %" PRIu32 ", refused %" PRIu32 ", rounds %" PRIu32 "\n", panel.tally.finished,
            panel.tally.refused, panel.tally.rounds);
-    return fflush(stdout) == 0 ? 0 : 1;
+    return fflush(stdout) == 0 && !ferror(stdout) ? 0 : 1;
 }

@@ -35,8 +35,8 @@ extern "C" {
  *   14  the buffer is long enough for the packet?
  *
  * Buffers. Each is a pointer and how many numbers it has (never how many bytes, but for bytes). Mosaics, planes and
- * bands are width * height numbers, row by row. The work buffer may hold anything before; afterwards its first
- * 8 * width * height numbers hold 0 and the rest is untouched.
+ * bands are width * height numbers, row by row. The work buffer may hold anything before; after an accepted call its
+ * first 8 * width * height numbers hold 0 and the rest is untouched.
  *
  * What the caller has to keep, since no question can ask it:
  *   - each pointer is not null, even where its length is 0, aligned for its type, and valid for its length;
@@ -57,11 +57,14 @@ extern "C" {
 /* A packet's refusal number, 0 for sound. Asks 11, 1, 2, 3, 4, 5, 12, 13, 9. */
 uint32_t demosaic_packet_refusal(const uint8_t *store, size_t store_len);
 
-/* What a packet says of its frame. Asks the same. */
+/* What a packet says of its frame. Asks 11, 1, 2, 3, 4, 5, 12, 13, 9. */
 uint32_t demosaic_packet_fields(const uint8_t *store, size_t store_len, size_t *width, size_t *height,
                                 uint8_t *layout, uint8_t *rounds, uint16_t *threshold);
 
-/* Fills `samples` with a packet's samples. Asks 11, 1, 2, 3, 4, 5, 12, 13, 7, 9. */
+/*
+ * Fills `samples` with a packet's samples: as many as the packet's width * height. Asks 11, 1, 2, 3, 4, 5, 12, 13,
+ * 7, 9.
+ */
 uint32_t demosaic_packet_samples(const uint8_t *store, size_t store_len, uint16_t *samples, size_t samples_len);
 
 /*
@@ -87,7 +90,10 @@ uint32_t demosaic_packet_repeats(const uint8_t *a, size_t a_len, const uint8_t *
  * width, height and layout.
  */
 
-/* Fills `out` with the turned samples, of a mosaic or of a plane. Asks 16, 1, 2, 3, 6, 7. */
+/*
+ * Fills `out` with the turned samples, of a mosaic or of a plane; the layout changes nothing in them. Asks 16, 1, 2,
+ * 3, 6, 7.
+ */
 uint32_t demosaic_turn(uint8_t turn, size_t width, size_t height, uint8_t layout, const uint16_t *samples,
                        size_t samples_len, uint16_t *out, size_t out_len);
 
@@ -118,7 +124,7 @@ uint32_t demosaic_finish(size_t width, size_t height, uint8_t layout, uint8_t ro
  * The tally: frames finished, frames refused, rounds run. The caller holds the three counts, at first 0, and takes the
  * next of each after every finishing call: an accepted frame (number 0) adds 1 to the first and its rounds to the
  * third, a refused one adds 1 to the second only. Each count stops at 4,294,967,295. `number` is what demosaic_finish
- * answered, `rounds` what it was given.
+ * answered (or the call that refused the frame before), `rounds` what it was given.
  */
 uint32_t demosaic_tally_finished(uint32_t before, uint32_t number);
 uint32_t demosaic_tally_refused(uint32_t before, uint32_t number);

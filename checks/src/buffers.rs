@@ -8,7 +8,8 @@ const BESIDE: usize = 7;
 /// A number of a buffer.
 pub trait Number: Copy + Display + PartialEq {
     /// What a lent buffer, and the places beside any buffer, hold at place k before a call: nothing that an accepted call is
-    /// given or answers, and another value at each place nearby.
+    /// given or answers, and another value at each place nearby. The bytes of a packet and the samples that are turned have
+    /// no such value; there the values nearby differ at least.
     fn pattern(k: usize) -> Self;
 }
 
@@ -27,6 +28,19 @@ impl Number for i32 {
 impl Number for u16 {
     fn pattern(k: usize) -> u16 {
         65_535 - (k % 60_000) as u16
+    }
+}
+
+impl Number for u8 {
+    /// No layout, no number of rounds, no turn, neither yes nor no.
+    fn pattern(k: usize) -> u8 {
+        255 - (k % 190) as u8
+    }
+}
+
+impl Number for usize {
+    fn pattern(k: usize) -> usize {
+        usize::MAX - k
     }
 }
 
@@ -67,6 +81,12 @@ impl<T: Number> Buffer<T> {
             let due = T::pattern(k);
             panic!("{what}, place {}: {} in place of {due}", k as i64 - BESIDE as i64, self.0[k]);
         }
+    }
+
+    /// The one number of a buffer of one, as a call that hands back a number is lent it.
+    pub fn number_mut(&mut self) -> &mut T {
+        let [number] = self.inside_mut() else { panic!("a buffer of one") };
+        number
     }
 
     /// Holds what is due, and the places beside hold what they held.

@@ -8,6 +8,7 @@ pub mod border;
 pub mod buffers;
 pub mod chance;
 pub mod child;
+pub mod compiled;
 pub mod estimate;
 pub mod finishing;
 pub mod finishing_examples;

@@ -1,4 +1,5 @@
-//! The C calls of the filter bank, the first estimates, the green update, the rounds, finishing and the tally.
+//! The C calls of packets, turns, the filter bank, the first estimates, the green update, the rounds, finishing and the
+//! tally.
 //!
 //! This is no module of the crate: what links the crate would then need the static library. The tests of these calls and the
 //! benchmark take the file in by its path.
@@ -11,6 +12,61 @@ use checks::packet::Fields;
 
 #[link(name = "demosaic_c", kind = "static")]
 unsafe extern "C" {
+    fn demosaic_packet_fields(
+        store: *const u8,
+        store_len: usize,
+        width: *mut usize,
+        height: *mut usize,
+        layout: *mut u8,
+        rounds: *mut u8,
+        threshold: *mut u16,
+    ) -> u32;
+
+    fn demosaic_packet_samples(
+        store: *const u8,
+        store_len: usize,
+        samples: *mut u16,
+        samples_len: usize,
+    ) -> u32;
+
+    fn demosaic_packet_write(
+        width: usize,
+        height: usize,
+        layout: u8,
+        rounds: u8,
+        threshold: u16,
+        samples: *const u16,
+        samples_len: usize,
+        out: *mut u8,
+        out_len: usize,
+        written: *mut usize,
+    ) -> u32;
+
+    fn demosaic_packet_repeats(a: *const u8, a_len: usize, b: *const u8, b_len: usize, same: *mut u8) -> u32;
+
+    fn demosaic_turn(
+        turn: u8,
+        width: usize,
+        height: usize,
+        layout: u8,
+        samples: *const u16,
+        samples_len: usize,
+        out: *mut u16,
+        out_len: usize,
+    ) -> u32;
+
+    fn demosaic_turned_shape(
+        turn: u8,
+        width: usize,
+        height: usize,
+        layout: u8,
+        turned_width: *mut usize,
+        turned_height: *mut usize,
+        turned_layout: *mut u8,
+    ) -> u32;
+
+    fn demosaic_then_another(turn: u8, next: u8, single: *mut u8) -> u32;
+
     fn demosaic_split(
         width: usize,
         height: usize,
@@ -119,9 +175,101 @@ fn answer(number: u32) -> Result<(), u32> {
     }
 }
 
+pub fn packet_fields(
+    store: &[u8],
+    width: &mut usize,
+    height: &mut usize,
+    layout: &mut u8,
+    rounds: &mut u8,
+    threshold: &mut u16,
+) -> Result<(), u32> {
+    // each pointer and length are those of one slice or number, and none that is written overlaps another
+    answer(unsafe {
+        demosaic_packet_fields(store.as_ptr(), store.len(), width, height, layout, rounds, threshold)
+    })
+}
+
+pub fn packet_samples(store: &[u8], samples: &mut [u16]) -> Result<(), u32> {
+    // as in the fields
+    answer(unsafe {
+        demosaic_packet_samples(store.as_ptr(), store.len(), samples.as_mut_ptr(), samples.len())
+    })
+}
+
+pub fn packet_write(
+    fields: &Fields,
+    samples: &[u16],
+    out: &mut [u8],
+    written: &mut usize,
+) -> Result<(), u32> {
+    // as in the fields
+    answer(unsafe {
+        demosaic_packet_write(
+            fields.width,
+            fields.height,
+            fields.layout,
+            fields.rounds,
+            fields.threshold,
+            samples.as_ptr(),
+            samples.len(),
+            out.as_mut_ptr(),
+            out.len(),
+            written,
+        )
+    })
+}
+
+pub fn packet_repeats(a: &[u8], b: &[u8], same: &mut u8) -> Result<(), u32> {
+    // as in the fields; the two stores may overlap, since neither is written
+    answer(unsafe { demosaic_packet_repeats(a.as_ptr(), a.len(), b.as_ptr(), b.len(), same) })
+}
+
+pub fn turn(
+    turn: u8,
+    width: usize,
+    height: usize,
+    layout: u8,
+    samples: &[u16],
+    out: &mut [u16],
+) -> Result<(), u32> {
+    // as in the fields
+    answer(unsafe {
+        demosaic_turn(
+            turn,
+            width,
+            height,
+            layout,
+            samples.as_ptr(),
+            samples.len(),
+            out.as_mut_ptr(),
+            out.len(),
+        )
+    })
+}
+
+pub fn turned_shape(
+    turn: u8,
+    width: usize,
+    height: usize,
+    layout: u8,
+    turned_width: &mut usize,
+    turned_height: &mut usize,
+    turned_layout: &mut u8,
+) -> Result<(), u32> {
+    // as in the fields
+    answer(unsafe {
+        demosaic_turned_shape(turn, width, height, layout, turned_width, turned_height, turned_layout)
+    })
+}
+
+pub fn then_another(turn: u8, next: u8, single: &mut u8) -> Result<(), u32> {
+    // as in the fields
+    answer(unsafe { demosaic_then_another(turn, next, single) })
+}
+
 pub fn split(width: usize, height: usize, plane: &[i32], bands: [&mut [i32]; 4]) -> Result<(), u32> {
     let [band1, band2, band3, band4] = bands;
-    // each pointer and length are those of one slice, and no slice that is written overlaps another
+    // as in the fields
     answer(unsafe {
         demosaic_split(
             width,
@@ -142,7 +290,7 @@ pub fn split(width: usize, height: usize, plane: &[i32], bands: [&mut [i32]; 4])
 
 pub fn join(width: usize, height: usize, bands: [&[i32]; 4], sums: &mut [i32]) -> Result<(), u32> {
     let [band1, band2, band3, band4] = bands;
-    // as in the split
+    // as in the fields
     answer(unsafe {
         demosaic_join(
             width,
@@ -173,7 +321,7 @@ pub fn estimate(
     planes: [&mut [u16]; 3],
 ) -> Result<(), u32> {
     let [red, green, blue] = planes;
-    // as in the split
+    // as in the fields
     answer(unsafe {
         demosaic_estimate(
             width,
@@ -199,7 +347,7 @@ pub fn update(
     green: &mut [u16],
     work: &mut [i32],
 ) -> Result<(), u32> {
-    // as in the split
+    // as in the fields
     answer(unsafe {
         demosaic_update(
             width,
@@ -223,7 +371,7 @@ pub fn rounds(
     blue: &mut [u16],
     work: &mut [i32],
 ) -> Result<(), u32> {
-    // as in the split
+    // as in the fields
     answer(unsafe {
         demosaic_rounds(
             fields.width,
@@ -247,7 +395,7 @@ pub fn rounds(
 
 pub fn finish(fields: &Fields, mosaic: &[u16], planes: [&mut [u16]; 3], work: &mut [i32]) -> Result<(), u32> {
     let [red, green, blue] = planes;
-    // as in the split
+    // as in the fields
     answer(unsafe {
         demosaic_finish(
             fields.width,

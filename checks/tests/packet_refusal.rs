@@ -2,12 +2,12 @@
 
 use checks::chance::Chance;
 use checks::child;
+use checks::compiled::compiled;
 use checks::packet::{self, Fields};
 use checks::refusals::Counts;
 use checks::stores::{damaged, described, sound, Stores};
 use std::io::{BufWriter, Write};
-use std::path::{Path, PathBuf};
-use std::process::Command;
+use std::path::Path;
 
 /// The largest packets.
 fn long(chance: &mut Chance, stores: &mut Stores) {
@@ -34,35 +34,6 @@ fn long(chance: &mut Chance, stores: &mut Stores) {
     stores.push(("2 by 2048", high));
 }
 
-/// Compiles the C program against the library and answers where it is.
-fn compiled() -> PathBuf {
-    let checks = Path::new(env!("CARGO_MANIFEST_DIR"));
-    let library = checks.join("../target/staticlib/libdemosaic_c.a");
-    assert!(
-        library.is_file(),
-        "the library {} is missing: run `rt staticlib demosaic_c` first",
-        library.display()
-    );
-    let program = Path::new(env!("CARGO_TARGET_TMPDIR")).join("packet_refusal");
-    let compiler = Command::new("cc")
-        .args(["-O2", "-std=c11", "-Wall", "-Wextra", "-Werror"])
-        .arg("-I")
-        .arg(checks.join("../include"))
-        .arg("-o")
-        .arg(&program)
-        .arg(checks.join("c/packet_refusal.c"))
-        .arg(&library)
-        .output()
-        .expect("cc does not start");
-    assert!(
-        compiler.status.success(),
-        "cc fails, {}:\n{}",
-        compiler.status,
-        String::from_utf8_lossy(&compiler.stderr)
-    );
-    program
-}
-
 /// The numbers that the C program prints for the stores.
 fn answers(program: &Path, stores: &Stores) -> Vec<u32> {
     let (output, written) = child::run(program, |input| {
@@ -86,7 +57,7 @@ fn answers(program: &Path, stores: &Stores) -> Vec<u32> {
 
 #[test]
 fn the_c_call_answers_the_references_number() {
-    let program = compiled();
+    let program = compiled("checks/c/packet_refusal.c", env!("CARGO_TARGET_TMPDIR"));
     let chance = &mut Chance(0x9e37_79b9_7f4a_7c15);
     let mut stores = sound(chance);
     let sound_ones = stores.len();

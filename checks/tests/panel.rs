@@ -1,0 +1,285 @@
+//! The example of a panel's program, `examples/panel.c`, prints what the reference computes of its files: refusals, repeats,
+//! turned and finished frames, and the tally.
+
+use checks::chance::Chance;
+use checks::compiled::{compile, compiled, in_repository};
+use checks::finishing::{finished_of, Tally};
+use checks::mosaics::kinds;
+use checks::packet::{self, Fields, PRINTED};
+use checks::stores::{damaged, sound, wrong, QUESTIONS};
+use checks::text::assert_same;
+use checks::turns::{turn_samples, Frame};
+use std::fmt::Write;
+use std::fs::{self, File};
+use std::path::{Path, PathBuf};
+use std::process::{Command, Output};
+use std::sync::LazyLock;
+
+const DIRECTORY: &str = env!("CARGO_TARGET_TMPDIR");
+
+static PANEL: LazyLock<PathBuf> = LazyLock::new(|| compiled("examples/panel.c", DIRECTORY));
+
+/// A frame as the panel is to finish it, and the means of its finished red and blue; or the refusal of the turn.
+fn finished(turn: u8, fields: &Fields, samples: &[u16]) -> Result<(Fields, [u64; 2]), u32> {
+    let mut mosaic = vec![0; samples.len()];
+    let shape = turn_samples(turn, fields.width, fields.height, fields.layout, samples, &mut mosaic);
+    let (width, height, layout) = shape?;
+    let fields = Fields { width, height, layout, ..*fields };
+    let [red, _, blue] = finished_of(&fields, &mosaic);
+    let mean =
+        |plane: Vec<u16>| plane.iter().map(|&value| u64::from(value)).sum::<u64>() / plane.len() as u64;
+    Ok((fields, [red, blue].map(mean)))
+}
+
+/// A file's name, and the store that it holds.
+type Store = (String, Vec<u8>);
+
+/// What the panel has to print of these stores.
+fn due(turn: u8, stores: &[Store]) -> String {
+    let mut out = String::new();
+    let mut tally = Tally::default();
+    let mut last: Option<&[u8]> = None;
+    for (name, store) in stores {
+        let frame = match packet::read(store) {
+            Ok(_) if last.is_some_and(|last| packet::repeats(store, last).unwrap()) => {
+                writeln!(out, "{name}: repeats the one before").unwrap();
+                continue;
+            }
+            Ok((fields, part)) => finished(turn, &fields, &packet::samples_of(part)),
+            Err(number) => Err(number),
+        };
+        match frame {
+            Ok((Fields { width, height, rounds, .. }, [red, blue])) => {
+                writeln!(out, "{name}: {width} by {height}, red {red}, blue {blue}").unwrap();
+                tally = tally.next(0, rounds);
+                last = Some(store);
+            }
+            Err(number) => {
+                writeln!(out, "{name}: refused {number}").unwrap();
+                tally = tally.next(number, 0);
+            }
+        }
+    }
+    writeln!(out, "finished {}, refused {}, rounds {}", tally.finished, tally.refused, tally.rounds).unwrap();
+    out
+}
+
+/// A directory of a test's own with these files, each named by its number.
+fn directory(test: &str, stores: Vec<Vec<u8>>) -> (PathBuf, Vec<Store>) {
+    let directory = Path::new(DIRECTORY).join(format!("panel_{test}"));
+    fs::create_dir_all(&directory).unwrap();
+    let named: Vec<Store> = (1..).map(|k: usize| format!("file {k}")).zip(stores).collect();
+    for (name, store) in &named {
+        fs::write(directory.join(name), store).unwrap();
+    }
+    (directory, named)
+}
+
+fn panel() -> Command {
+    Command::new(&*PANEL)
+}
+
+fn run(mut command: Command, directory: &Path, arguments: &[&str]) -> Output {
+    command.current_dir(directory).args(arguments).output().expect("the panel's program does not start")
+}
+
+/// Has the program read these stores, compares what it leaves with the reference, and hands back its lines.
+fn compared_with(command: Command, test: &str, turn: u8, stores: Vec<Vec<u8>>) -> Vec<String> {
+    let (directory, stores) = directory(test, stores);
+    let number = turn.to_string();
+    let arguments: Vec<&str> =
+        [&number[..]].into_iter().chain(stores.iter().map(|(name, _)| &name[..])).collect();
+    let output = run(command, &directory, &arguments);
+    let (text, what) = (String::from_utf8_lossy(&output.stdout), format!("{test}, turn {turn}"));
+    assert_eq!(String::from_utf8_lossy(&output.stderr), "", "{what}");
+    assert_same(&text, &due(turn, &stores), &what);
+    assert_eq!(output.status.code(), Some(0), "{what}");
+    text.lines().map(str::to_string).collect()
+}
+
+fn compared(test: &str, turn: u8, stores: Vec<Vec<u8>>) -> Vec<String> {
+    compared_with(panel(), test, turn, stores)
+}
+
+/// A frame of a kind by chance, with few rounds.
+fn frame(chance: &mut Chance, width: usize, height: usize) -> (Fields, Vec<u16>) {
+    let kinds = kinds(chance, width, height);
+    (chance.few_rounds(width, height), kinds[chance.place(kinds.len())].1.clone())
+}
+
+/// Packets of many sizes, after older bytes too.
+fn packets(chance: &mut Chance) -> Vec<Vec<u8>> {
+    let sizes = [(2, 2), (3, 2), (2, 3), (3, 3), (5, 4), (4, 7), (9, 9), (31, 18), (2, 257), (300, 3)];
+    let packets = sizes.map(|(width, height)| {
+        let (fields, samples) = frame(chance, width, height);
+        packet::bytes(&fields, &samples)
+    });
+    packets.map(|packet| chance.after_older_bytes(&packet)).to_vec()
+}
+
+/// Every turn, in range or not: packets of many sizes, and a store refused by each of the reader's questions.
+#[test]
+fn every_turn() {
+    let chance = &mut Chance(0x9e37_79b9_7f4a_7c15);
+    for turn in (0..12).chain([16, 127, 128, 254, 255]) {
+        let mut stores = packets(chance);
+        stores.push(chance.bytes(11));
+        for question in QUESTIONS {
+            let fields = chance.small_fields();
+            stores.push(wrong(chance, &fields, &[question]));
+        }
+        let last = compared("every_turn", turn, stores).pop().unwrap();
+        assert_eq!(last.starts_with("finished 10, refused 9, "), turn < 8, "turn {turn}: {last}");
+        assert_eq!(last == "finished 0, refused 19, rounds 0", turn >= 8, "turn {turn}: {last}");
+    }
+}
+
+/// Some of the stores that the reader is tried with, sound and damaged in turn.
+#[test]
+fn stores_of_every_kind() {
+    let chance = &mut Chance(0x2545_f491_4f6c_dd1d);
+    let [sound, damaged] = [sound(chance), damaged(chance)];
+    let sound = sound.into_iter().step_by(5).map(|(_, store)| store);
+    let damaged: Vec<_> = damaged.into_iter().step_by(29).map(|(_, store)| store).collect();
+    let mixed: Vec<_> = sound.zip(damaged).flat_map(|(sound, damaged)| [sound, damaged]).collect();
+    for (turn, stores) in (0..9).zip(mixed.chunks(60)) {
+        compared("stores_of_every_kind", turn, stores.to_vec());
+    }
+}
+
+/// A packet is skipped where it repeats the last finished one, whatever was refused or skipped between; it is finished where
+/// another was finished between.
+#[test]
+fn repeats() {
+    let chance = &mut Chance(0x0123_4567_89ab_cdef);
+    for turn in 0..9 {
+        let (width, height) = chance.one_of(&[(3, 2), (4, 5), (2, 6)]);
+        let (fields, mut samples) = frame(chance, width, height);
+        let packet = packet::bytes(&fields, &samples);
+        let other_settings = packet::bytes(&Fields { rounds: 0, threshold: 4095, ..fields }, &samples);
+        let other_layout = packet::bytes(&Fields { layout: 3 - fields.layout, ..fields }, &samples);
+        let exchanged = packet::bytes(&Fields { width: height, height: width, ..fields }, &samples);
+        samples[width * height - 1] ^= 1;
+        let other_sample = packet::bytes(&fields, &samples);
+        let [refused, cut] = [[&packet[..], &[255]].concat(), packet[1..].to_vec()];
+        let older_too = [&other_sample[..], &packet].concat();
+        let stores = [
+            &refused,
+            &packet,
+            &packet,
+            &other_settings,
+            &refused,
+            &older_too,
+            &cut,
+            &packet,
+            &other_layout,
+            &other_layout,
+            &packet,
+            &exchanged,
+            &exchanged,
+            &packet,
+            &other_sample,
+            &packet,
+            &packet,
+            &older_too,
+        ];
+        let lines = compared("repeats", turn, stores.map(Clone::clone).to_vec());
+        let skipped: Vec<usize> =
+            (1..).zip(&lines).filter(|(_, l)| l.contains("repeats")).map(|(k, _)| k).collect();
+        let due: &[usize] = if turn < 8 { &[3, 4, 6, 8, 10, 13, 17, 18] } else { &[] };
+        assert_eq!(skipped, due, "turn {turn}");
+    }
+}
+
+/// A mirrored head's frame, turned upright, gives the line of the frame itself; turned otherwise, it gives the same red and
+/// blue.
+#[test]
+fn a_mirrored_head() {
+    let chance = &mut Chance(0xfedc_ba98_7654_3210);
+    let after_name = |line: &String| line.split_once(": ").unwrap().1.to_string();
+    for (width, height) in [(2, 2), (3, 2), (5, 4), (4, 4), (16, 9), (40, 33)] {
+        let (fields, samples) = frame(chance, width, height);
+        let upright = Frame { width, height, layout: fields.layout, samples };
+        let line = after_name(&compared("a_head", 0, vec![packet::bytes(&fields, &upright.samples)])[0]);
+        for head in 0..8 {
+            let Frame { width, height, layout, samples } = upright.turned(head);
+            let packet = packet::bytes(&Fields { width, height, layout, ..fields }, &samples);
+            for turn in 0..8 {
+                let found = after_name(&compared("a_mirrored_head", turn, vec![packet.clone()])[0]);
+                let colours = |line: &str| line.split_once(", ").unwrap().1.to_string();
+                assert_eq!(colours(&found), colours(&line), "head {head}, turn {turn}");
+                if upright.turned(head).turned(turn) == upright {
+                    assert_eq!(found, line, "head {head}, turn {turn}");
+                }
+            }
+        }
+    }
+}
+
+/// Files of lengths at which a reader may stop too early, a larger frame, an empty file, and no file at all.
+#[test]
+fn files_of_every_length() {
+    let chance = &mut Chance(0x5851_f42d_4c95_7f2d);
+    let mut stores = vec![vec![]];
+    for length in [1, 4095, 4096, 4097, 65_535, 65_536, 65_537, 131_072, 196_608, 262_145, 1_000_000] {
+        let packet = chance.small_packet();
+        let older = usize::saturating_sub(length, packet.len());
+        stores.push([chance.bytes(older), packet].concat());
+        stores.push(chance.bytes(length));
+    }
+    let (fields, samples) = frame(chance, 301, 200);
+    stores.push(packet::bytes(&fields, &samples));
+    compared("files_of_every_length", 5, stores);
+    assert_eq!(compared("files_of_every_length", 0, vec![]), ["finished 0, refused 0, rounds 0"]);
+}
+
+/// More files than may be open at once: none stays open.
+#[test]
+fn many_files() {
+    let mut limited = Command::new("sh");
+    limited.args(["-c", "ulimit -n 16 && exec \"$0\" \"$@\""]).arg(&*PANEL);
+    let lines = compared_with(limited, "many_files", 3, vec![PRINTED.to_vec(); 100]);
+    assert_eq!(lines.len(), 101);
+}
+
+/// Status 2 for what is no turn, 1 for what cannot be read, and a word about it each time.
+#[test]
+fn what_it_cannot_do() {
+    let (directory, _) = directory("what_it_cannot_do", vec![PRINTED.to_vec()]);
+    fs::create_dir_all(directory.join("directory")).unwrap();
+    for turn in ["", "x", "-1", "256", "1x", "x1", "1.0", "0x1", "1 2", "99999999999999999999", "file 1"] {
+        let output = run(panel(), &directory, &[turn, "file 1"]);
+        assert_eq!((output.status.code(), &output.stdout[..]), (Some(2), &[][..]), "turn {turn:?}");
+        assert_ne!(output.stderr, [], "turn {turn:?}");
+    }
+    let none = run(panel(), &directory, &[]);
+    assert_eq!((none.status.code(), &none.stdout[..], none.stderr.is_empty()), (Some(2), &[][..], false));
+    for file in ["missing", "directory"] {
+        for files in [&["0", file][..], &["0", "file 1", file], &["0", file, "file 1"]] {
+            let output = run(panel(), &directory, files);
+            assert_eq!(output.status.code(), Some(1), "{files:?}");
+            assert!(String::from_utf8_lossy(&output.stderr).contains(file), "{files:?}");
+            assert!(!String::from_utf8_lossy(&output.stdout).contains("finished"), "{files:?}");
+        }
+    }
+    // a disc without room
+    if let Ok(full) = File::options().write(true).open("/dev/full") {
+        let status = panel().current_dir(&directory).args(["0", "file 1"]).stdout(full).status().unwrap();
+        assert_eq!(status.code(), Some(1));
+    }
+}
+
+/// With the compiler's own checks of addresses, leaks and undefined behaviour in the program around the calls.
+#[test]
+fn under_the_sanitizers() {
+    let chance = &mut Chance(0xda94_2042_e4dd_58b5);
+    let program = Path::new(DIRECTORY).join("panel_under_the_sanitizers.bin");
+    let compiler = ["cc", "-g", "-std=c11", "-fsanitize=address,undefined", "-fno-sanitize-recover=all"];
+    compile(&compiler, &in_repository("examples/panel.c"), &program);
+    for turn in [0, 6, 8] {
+        let packets = packets(chance);
+        let refused = packets.iter().map(|packet| packet[packet.len() - 13..].to_vec());
+        let twice = packets.iter().flat_map(|packet| [packet.clone(), packet.clone()]);
+        compared_with(Command::new(&program), "under_the_sanitizers", turn, twice.chain(refused).collect());
+    }
+}

@@ -1,0 +1,384 @@
+//! The C calls `demosaic_turn`, `demosaic_turned_shape` and `demosaic_then_another` answer what the reference answers, leave
+//! in every buffer, and beside it, what the reference leaves, and leave the numbers behind pointers where they refuse.
+
+use checks::buffers::{assert_same, Buffer};
+use checks::chance::Chance;
+use checks::mosaics::longer_lengths;
+use checks::refusals::{
+    answered, refusals, wrong_lengths, Counts, FrameCall, LARGEST, NO_LENGTH, SHAPES, TRIES_IN_THE_LARGEST,
+};
+use checks::turns::{after_list, then_another, turn_samples, turned_shape, Frame};
+
+#[path = "../src/library.rs"]
+mod library;
+
+/// What the turning call is asked with: the turn, the frame and the length of the second buffer.
+#[derive(Clone)]
+struct Turning {
+    turn: u8,
+    frame: Frame,
+    out: usize,
+}
+
+impl Turning {
+    /// With a second buffer as long as it has to be.
+    fn of(turn: u8, frame: &Frame) -> Turning {
+        Turning { turn, frame: frame.clone(), out: frame.samples.len() }
+    }
+
+    /// Asks the library and the reference alike, compares the answers and the buffers, and hands back the library's number
+    /// and second buffer.
+    fn compared(&self, kind: &str) -> (u32, Vec<u16>) {
+        let Frame { width, height, layout, ref samples } = self.frame;
+        let what = format!("turn {} of {width} by {height}, layout {layout}, {kind}", self.turn);
+        let given = Buffer::given(samples);
+        let [mut out, mut due] = [(); 2].map(|_| Buffer::<u16>::lent(self.out));
+        let answer = library::turn(self.turn, width, height, layout, given.inside(), out.inside_mut());
+        let due_answer = turn_samples(self.turn, width, height, layout, samples, due.inside_mut());
+        assert_eq!(answer, due_answer.map(|_| ()), "{what}");
+        given.assert_holds(samples, &format!("{what}: samples"));
+        out.assert_holds(due.inside(), &format!("{what}: second buffer"));
+        if answer.is_err() {
+            out.assert_untouched(&format!("{what}: second buffer, refused"));
+        }
+        (answer.err().unwrap_or(0), out.inside().to_vec())
+    }
+}
+
+impl FrameCall for Turning {
+    const NAME: &'static str = "turn";
+    const QUESTIONS: &'static [u32] = &[16, 1, 2, 3, 6, 7];
+
+    fn sound(chance: &mut Chance, width: usize, height: usize) -> Turning {
+        let turn = chance.between(0, 7) as u8;
+        Turning::of(turn, &random(chance, width, height))
+    }
+
+    fn wrong(chance: &mut Chance, questions: &[u32]) -> Turning {
+        let (width, height) = (chance.between(2, 9) as usize, chance.between(2, 9) as usize);
+        let count = width * height;
+        let mut ask = Turning::sound(chance, width, height);
+        for question in questions {
+            let length = chance.one_of(&[count - 1, count + 1, 100]);
+            match question {
+                16 => ask.turn = chance.between(8, 255) as u8,
+                1 => ask.frame.width = chance.one_of(&NO_LENGTH),
+                2 => ask.frame.height = chance.one_of(&NO_LENGTH),
+                3 => ask.frame.layout = chance.between(4, 255) as u8,
+                6 => ask.frame.samples = chance.any_samples(length),
+                _ => ask.out = length,
+            }
+        }
+        ask
+    }
+
+    fn told(self, width: usize, height: usize, layout: u8) -> Turning {
+        Turning { frame: Frame { width, height, layout, ..self.frame }, ..self }
+    }
+
+    fn layout(&self) -> u8 {
+        self.frame.layout
+    }
+
+    fn number(&self, kind: &str) -> u32 {
+        self.compared(kind).0
+    }
+}
+
+/// What the call of the turned shape is asked with.
+#[derive(Clone, Copy, Debug)]
+struct Shape {
+    turn: u8,
+    width: usize,
+    height: usize,
+    layout: u8,
+}
+
+impl Shape {
+    fn of(turn: u8, frame: &Frame) -> Shape {
+        Shape { turn, width: frame.width, height: frame.height, layout: frame.layout }
+    }
+
+    /// Asks the library and the reference alike, compares the answers, the three numbers and the places beside them, and
+    /// hands back the library's answer.
+    fn compared(&self, kind: &str) -> Result<(usize, usize, u8), u32> {
+        let what = format!("{self:?}, {kind}");
+        let [mut width, mut height] = [(); 2].map(|_| Buffer::lent(1));
+        let mut layout = Buffer::lent(1);
+        let answer = library::turned_shape(
+            self.turn,
+            self.width,
+            self.height,
+            self.layout,
+            width.number_mut(),
+            height.number_mut(),
+            layout.number_mut(),
+        );
+        let due = turned_shape(self.turn, self.width, self.height, self.layout);
+        assert_eq!(answer, due.map(|_| ()), "{what}");
+        match due {
+            Ok((due_width, due_height, due_layout)) => {
+                width.assert_holds(&[due_width], &format!("{what}: width"));
+                height.assert_holds(&[due_height], &format!("{what}: height"));
+                layout.assert_holds(&[due_layout], &format!("{what}: layout"));
+            }
+            Err(_) => {
+                width.assert_untouched(&format!("{what}: width, refused"));
+                height.assert_untouched(&format!("{what}: height, refused"));
+                layout.assert_untouched(&format!("{what}: layout, refused"));
+            }
+        }
+        answer.map(|()| (*width.number_mut(), *height.number_mut(), *layout.number_mut()))
+    }
+}
+
+impl FrameCall for Shape {
+    const NAME: &'static str = "turned shape";
+    const QUESTIONS: &'static [u32] = &[16, 1, 2, 3];
+
+    fn sound(chance: &mut Chance, width: usize, height: usize) -> Shape {
+        let (turn, layout) = (chance.between(0, 7) as u8, chance.between(0, 3) as u8);
+        Shape { turn, width, height, layout }
+    }
+
+    fn wrong(chance: &mut Chance, questions: &[u32]) -> Shape {
+        let (width, height) = (chance.between(2, 9) as usize, chance.between(2, 9) as usize);
+        let mut ask = Shape::sound(chance, width, height);
+        for question in questions {
+            match question {
+                16 => ask.turn = chance.between(8, 255) as u8,
+                1 => ask.width = chance.one_of(&NO_LENGTH),
+                2 => ask.height = chance.one_of(&NO_LENGTH),
+                _ => ask.layout = chance.between(4, 255) as u8,
+            }
+        }
+        ask
+    }
+
+    fn told(self, width: usize, height: usize, layout: u8) -> Shape {
+        Shape { width, height, layout, ..self }
+    }
+
+    fn layout(&self) -> u8 {
+        self.layout
+    }
+
+    fn number(&self, kind: &str) -> u32 {
+        self.compared(kind).err().unwrap_or(0)
+    }
+}
+
+/// A frame of any 16-bit samples.
+fn random(chance: &mut Chance, width: usize, height: usize) -> Frame {
+    let layout = chance.between(0, 3) as u8;
+    Frame { width, height, layout, samples: chance.any_samples(width * height) }
+}
+
+/// The frame turned by the library, which is the reference's turned frame.
+fn turned(turn: u8, frame: &Frame, kind: &str) -> Frame {
+    let (number, samples) = Turning::of(turn, frame).compared(kind);
+    assert_eq!(number, 0, "turn {turn}, {kind}");
+    let (width, height, layout) = Shape::of(turn, frame).compared(kind).unwrap();
+    Frame { width, height, layout, samples }
+}
+
+/// The library's one turn for two, which is the reference's.
+fn compared_then_another(turn: u8, next: u8) -> Result<u8, u32> {
+    let what = format!("turn {turn}, then {next}");
+    let mut single = Buffer::lent(1);
+    let answer = library::then_another(turn, next, single.number_mut());
+    let due = then_another(turn, next);
+    assert_eq!(answer, due.map(|_| ()), "{what}");
+    match due {
+        Ok(due) => single.assert_holds(&[due], &what),
+        Err(_) => single.assert_untouched(&format!("{what}, refused")),
+    }
+    answer.map(|()| *single.number_mut())
+}
+
+/// The turn that turns back, in the header's words.
+fn back(turn: u8) -> u8 {
+    match turn {
+        5 => 6,
+        6 => 5,
+        itself => itself,
+    }
+}
+
+/// The widths and heights of all small frames.
+fn small_sizes() -> impl Iterator<Item = (usize, usize)> {
+    (2..=9).flat_map(|width| (2..=9).map(move |height| (width, height)))
+}
+
+#[test]
+fn every_small_size() {
+    let chance = &mut Chance(0x9e37_79b9_7f4a_7c15);
+    for (width, height) in small_sizes() {
+        for (layout, turn) in (0..4).flat_map(|layout| (0..8).map(move |turn| (layout, turn))) {
+            for _ in 0..3 {
+                let frame = Frame { layout, ..random(chance, width, height) };
+                turned(turn, &frame, "random");
+            }
+        }
+    }
+}
+
+#[test]
+fn longer_lines() {
+    let chance = &mut Chance(0x2545_f491_4f6c_dd1d);
+    for length in longer_lengths().chain([1000, 1023, 1024, 1025, 2046, 2047, 2048]) {
+        for other in [2, 3, chance.between(4, 40) as usize] {
+            for (width, height) in [(length, other), (other, length)] {
+                for turn in 0..8 {
+                    turned(turn, &random(chance, width, height), "random");
+                }
+            }
+        }
+    }
+}
+
+/// All 65,536 samples, each once: none is refused, changed or mistaken for another.
+#[test]
+fn every_sample() {
+    for (width, height) in [(256, 256), (2048, 32), (32, 2048)] {
+        for (turn, layout) in (0..8).zip([0, 1, 2, 3, 0, 1, 2, 3]) {
+            let frame = Frame { width, height, layout, samples: (0..=65_535).collect() };
+            turned(turn, &frame, "every sample");
+        }
+    }
+}
+
+#[test]
+fn the_largest_frame() {
+    let chance = &mut Chance(0x0123_4567_89ab_cdef);
+    let mut frame = random(chance, 2048, 2048);
+    for (place, value) in TRIES_IN_THE_LARGEST {
+        frame.samples[place] = value;
+    }
+    for turn in 0..8 {
+        turned(turn, &frame, "the largest frame");
+    }
+    let one_more = Turning { out: LARGEST + 1, ..Turning::of(5, &frame) };
+    assert_eq!(one_more.number("a second buffer of one more"), 7);
+    frame.samples.pop();
+    assert_eq!(Turning { out: LARGEST, ..Turning::of(5, &frame) }.number("a sample missing"), 6);
+}
+
+#[test]
+fn every_turn_with_every_layout() {
+    let chance = &mut Chance(0xfedc_ba98_7654_3210);
+    for (width, height) in [(2, 2), (3, 2), (4, 5)] {
+        let frame = random(chance, width, height);
+        for (turn, layout) in (0..=255).flat_map(|turn| (0..=255).map(move |layout| (turn, layout))) {
+            let due = if turn > 7 {
+                16
+            } else if layout > 3 {
+                3
+            } else {
+                0
+            };
+            let ask = Turning::of(turn, &frame).told(width, height, layout);
+            assert_eq!(ask.number("every turn and layout"), due, "turn {turn}, layout {layout}");
+            let shape = Shape { turn, width, height, layout };
+            assert_eq!(shape.number("every turn and layout"), due, "{shape:?}");
+        }
+    }
+}
+
+/// Every turn of 0 to 255, then every other.
+#[test]
+fn every_turn_then_every_other() {
+    for (turn, next) in (0..=255).flat_map(|turn| (0..=255).map(move |next| (turn, next))) {
+        let found = compared_then_another(turn, next);
+        assert_eq!(found.is_ok(), turn < 8 && next < 8, "turn {turn}, then {next}");
+    }
+    assert_eq!(compared_then_another(1, 4), Ok(6));
+}
+
+/// Turning by the one turn is turning by the two, one after the other.
+#[test]
+fn one_turn_for_two() {
+    let chance = &mut Chance(0x5851_f42d_4c95_7f2d);
+    for (turn, next) in (0..8).flat_map(|turn| (0..8).map(move |next| (turn, next))) {
+        let single = compared_then_another(turn, next).unwrap();
+        for (width, height) in [(2, 2), (3, 2), (2, 5), (4, 4), (5, 7), (8, 3), (33, 18)] {
+            for layout in 0..4 {
+                let frame = Frame { layout, ..random(chance, width, height) };
+                let by_two = turned(next, &turned(turn, &frame, "the first"), "the second");
+                let what = format!("{turn}, then {next}, of {width} by {height}, layout {layout}");
+                assert_eq!(turned(single, &frame, "the one"), by_two, "{what}");
+            }
+        }
+    }
+}
+
+#[test]
+fn there_and_back() {
+    let chance = &mut Chance(0xda94_2042_e4dd_58b5);
+    for turn in 0..8 {
+        assert_eq!(compared_then_another(turn, back(turn)), Ok(0), "turn {turn}");
+        for (width, height) in small_sizes().chain([(64, 33), (2, 2048), (500, 333)]) {
+            let frame = random(chance, width, height);
+            let there = turned(turn, &frame, "there");
+            let again = turned(back(turn), &there, "and back");
+            assert_same(&again.samples, &frame.samples, &format!("turn {turn} of {width} by {height}"));
+            assert_eq!(again, frame, "turn {turn}");
+        }
+    }
+}
+
+/// Demand 3's list: each call is given what the last accepted one before it left, with the turned width, height and layout.
+#[test]
+fn lists_of_turning_calls() {
+    let chance = &mut Chance(0x9fb2_1c65_1e98_df25);
+    for (width, height) in small_sizes().flat_map(|size| [size; 8]) {
+        let frame = random(chance, width, height);
+        let mut now = frame.clone();
+        let mut list = Vec::new();
+        for _ in 0..8 {
+            let any = chance.between(0, 255) as u8;
+            let turn = chance.one_of(&[any, any % 8, any % 8, any % 8]);
+            let wrong = chance.one_of(&wrong_lengths(width, height));
+            let out = chance.one_of(&[wrong, width * height, width * height, width * height]);
+            list.push((turn, out));
+            let ask = Turning { out, ..Turning::of(turn, &now) };
+            if let (0, samples) = ask.compared("of a list") {
+                let (width, height, layout) = Shape::of(turn, &now).compared("of a list").unwrap();
+                now = Frame { width, height, layout, samples };
+            }
+        }
+        assert_eq!(now, after_list(&frame, &list).0, "{width} by {height}, {list:?}");
+    }
+}
+
+/// Question 16 alone, of every turn.
+fn turns_refused<C: FrameCall>(chance: &mut Chance, counts: &mut Counts, with_turn: impl Fn(C, u8) -> C) {
+    for (width, height) in SHAPES {
+        for turn in 0..=255 {
+            let ask = with_turn(C::sound(chance, width, height), turn);
+            answered(&ask, if turn < 8 { 0 } else { 16 }, "every turn", counts);
+        }
+    }
+}
+
+#[test]
+fn refused_turning_calls() {
+    refusals::<Turning>(|chance, counts| {
+        turns_refused(chance, counts, |ask, turn| Turning { turn, ..ask });
+        for (width, height) in SHAPES {
+            let sound = Turning::sound(chance, width, height);
+            for length in wrong_lengths(width, height) {
+                let frame = Frame { samples: chance.any_samples(length), ..sound.frame.clone() };
+                let ask = Turning { frame, ..sound };
+                answered(&ask, 6, "the samples' length", counts);
+                answered(&Turning { out: length, ..ask }, 6, "both lengths", counts);
+                answered(&Turning { out: length, ..sound.clone() }, 7, "the second buffer's length", counts);
+            }
+        }
+    });
+}
+
+#[test]
+fn refused_shapes() {
+    refusals::<Shape>(|chance, counts| turns_refused(chance, counts, |ask, turn| Shape { turn, ..ask }));
+}
