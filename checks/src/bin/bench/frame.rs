@@ -1,0 +1,158 @@
+//! Estimate, update, rounds and finishing on the mosaic of a picture.
+
+use crate::calls::{Calls, PROGRAMS};
+use crate::clock::timed;
+use crate::{FINISHED, MORE};
+use checks::chance::Chance;
+use checks::mosaic::{Colour, Mosaic};
+use checks::mosaics::filled;
+use checks::packet::Fields;
+use std::hint::black_box;
+use std::mem::replace;
+use std::time::Duration;
+
+/// A mosaic that looks like a picture: slow changes of light, rings and bars with hard edges, a tint for each
+/// colour, noise.
+pub fn picture(chance: &mut Chance, width: usize, height: usize, layout: u8) -> Vec<u16> {
+    let mosaic = Mosaic { width, height, layout, samples: &[] };
+    filled(width, height, |i, j| {
+        let (y, x) = (i as f64 / height as f64, j as f64 / width as f64);
+        let light = 1400.0 + 700.0 * (9.0 * x).sin() * (7.0 * y).cos();
+        let ring = if (20.0 * (x - 0.4).hypot(y - 0.6)) as u64 % 3 == 0 { 800.0 } else { 0.0 };
+        let bar = if (i + 2 * j) / 23 % 5 == 0 { 500.0 } else { 0.0 };
+        let tint = match mosaic.colour(i as i64, j as i64) {
+            Colour::Red => 1.3,
+            Colour::Green => 1.0,
+            Colour::Blue => 0.6,
+        };
+        let noise = f64::from(chance.within(40));
+        (tint * (light + ring + bar) + noise).clamp(0.0, 4095.0) as u16
+    })
+}
+
+/// What the calls fill or rewrite.
+#[derive(Clone, PartialEq)]
+struct Lent {
+    planes: [Vec<u16>; 3],
+    work: Vec<i32>,
+}
+
+impl Lent {
+    fn new(count: usize) -> Lent {
+        Lent { planes: [(); 3].map(|_| vec![1; count]), work: vec![1; 8 * count] }
+    }
+}
+
+/// A mosaic, its first estimate of green, the planes that the rounds are given, and the buffers to fill. All
+/// programs are timed with these.
+pub struct Frame {
+    width: usize,
+    height: usize,
+    layout: u8,
+    mosaic: Vec<u16>,
+    green: Vec<u16>,
+    given: [Vec<u16>; 3],
+    lent: Lent,
+}
+
+impl Frame {
+    pub fn new(width: usize, height: usize, layout: u8, mosaic: Vec<u16>) -> Frame {
+        let lent = Lent::new(mosaic.len());
+        let (green, given) = (lent.planes[1].clone(), lent.planes.clone());
+        let mut frame = Frame { width, height, layout, mosaic, green, given, lent };
+        frame.estimate(PROGRAMS[0]).unwrap();
+        frame.green.clone_from(&frame.lent.planes[1]);
+        frame.update(PROGRAMS[0]).unwrap();
+        frame.given.clone_from(&frame.lent.planes);
+        frame
+    }
+
+    fn fields(&self, rounds: u8, threshold: u16) -> Fields {
+        Fields { width: self.width, height: self.height, layout: self.layout, rounds, threshold }
+    }
+
+    pub fn estimate(&mut self, calls: &Calls) -> Result<Duration, u32> {
+        let planes = self.lent.planes.each_mut().map(|plane| &mut plane[..]);
+        let (width, height, layout) = (self.width, self.height, self.layout);
+        timed(|| (calls.estimate)(width, height, layout, black_box(&self.mosaic), black_box(planes)))
+    }
+
+    /// From the first estimate of green on.
+    pub fn update(&mut self, calls: &Calls) -> Result<Duration, u32> {
+        let Lent { planes: [_, green, _], work } = &mut self.lent;
+        green.copy_from_slice(&self.green);
+        let (width, height, layout) = (self.width, self.height, self.layout);
+        let (mosaic, green, work) = (black_box(&self.mosaic), black_box(green), black_box(work));
+        timed(|| (calls.update)(width, height, layout, mosaic, green, work))
+    }
+
+    /// From the estimates with green updated on.
+    pub fn rounds(&mut self, calls: &Calls, rounds: u8, threshold: u16) -> Result<Duration, u32> {
+        let fields = self.fields(rounds, threshold);
+        let Lent { planes, work } = &mut self.lent;
+        planes.clone_from(&self.given);
+        let [red, green, blue] = black_box(planes.each_mut());
+        let (mosaic, work) = (black_box(&self.mosaic), black_box(work));
+        timed(|| (calls.rounds)(&fields, mosaic, red, green, blue, work))
+    }
+
+    pub fn finish(&mut self, calls: &Calls, rounds: u8, threshold: u16) -> Result<Duration, u32> {
+        let fields = self.fields(rounds, threshold);
+        let planes = self.lent.planes.each_mut().map(|plane| &mut plane[..]);
+        let (mosaic, work) = (black_box(&self.mosaic), black_box(&mut self.lent.work));
+        timed(|| (calls.finish)(&fields, mosaic, black_box(planes), work))
+    }
+
+    /// The answer to a call, which must be the same for all programs, as must be what the call leaves.
+    fn alike(
+        &mut self,
+        what: &str,
+        call: impl Fn(&mut Frame, &Calls) -> Result<Duration, u32>,
+    ) -> Option<u32> {
+        let [library, clang, gcc] = PROGRAMS.map(|calls| {
+            self.lent = Lent::new(self.mosaic.len());
+            (call(self, calls).err(), self.lent.clone())
+        });
+        let same = library == clang && library == gcc;
+        assert!(same, "{what}, {} by {}: the results differ", self.width, self.height);
+        library.0
+    }
+
+    /// A call that all accept alike, and that leaves zeros in the work buffer.
+    fn zeroing(&mut self, what: &str, call: impl Fn(&mut Frame, &Calls) -> Result<Duration, u32>) {
+        assert_eq!(self.alike(what, call), None, "{what}");
+        let zero = self.lent.work.iter().all(|&number| number == 0);
+        assert!(zero, "{what}, {} by {}: work left", self.width, self.height);
+    }
+
+    /// All give the same planes and leave zeros in the work buffer.
+    pub fn check(&mut self) {
+        assert_eq!(self.alike("estimate", Frame::estimate), None);
+        self.zeroing("update", Frame::update);
+        for (rounds, threshold) in [(0, 20), (1, 0), (1, 1), (2, 20), (1, 4095), (MORE, 0), (MORE, 20)] {
+            let what = format!("{rounds} rounds, T = {threshold}");
+            self.zeroing(&what, |frame, calls| frame.rounds(calls, rounds, threshold));
+        }
+        for (rounds, threshold) in FINISHED {
+            let what = format!("finishing, {rounds} rounds, T = {threshold}");
+            self.zeroing(&what, |frame, calls| frame.finish(calls, rounds, threshold));
+        }
+    }
+
+    /// All ask whether the samples are in range, of the last one too: of each given plane, and of the mosaic.
+    pub fn check_refused(&mut self) {
+        let last = self.mosaic.len() - 1;
+        for plane in 0..3 {
+            let sample = replace(&mut self.given[plane][last], 4096);
+            assert_eq!(self.alike("rounds", |frame, calls| frame.rounds(calls, 1, 20)), Some(10));
+            self.given[plane][last] = sample;
+        }
+        self.green[last] = 4096;
+        assert_eq!(self.alike("update", Frame::update), Some(10));
+        self.mosaic[last] = 4096;
+        assert_eq!(self.alike("estimate", Frame::estimate), Some(9));
+        assert_eq!(self.alike("update", Frame::update), Some(9));
+        assert_eq!(self.alike("rounds", |frame, calls| frame.rounds(calls, 1, 20)), Some(9));
+        assert_eq!(self.alike("finishing", |frame, calls| frame.finish(calls, 1, 20)), Some(9));
+    }
+}

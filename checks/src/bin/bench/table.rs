@@ -1,0 +1,83 @@
+//! The table of times, in Markdown.
+
+use std::time::Duration;
+
+/// The library's time of a call, clang's and gcc's.
+pub type Times = [Duration; 3];
+
+/// A number with two digits or more: 0.08, 1.3, 23, 1,468.
+fn shown(number: f64) -> String {
+    if number < 0.995 {
+        return format!("{number:.2}");
+    }
+    if number < 9.95 {
+        return format!("{number:.1}");
+    }
+    let whole = number.round() as u64;
+    match whole / 1000 {
+        0 => whole.to_string(),
+        thousands => format!("{thousands},{:03}", whole % 1000),
+    }
+}
+
+/// Nanoseconds per pixel.
+fn per_pixel(side: usize, time: Duration) -> String {
+    format!("{} ns", shown(time.as_nanos() as f64 / (side * side) as f64))
+}
+
+/// The milliseconds of the whole call too.
+fn told(side: usize, time: Duration) -> String {
+    format!("{}, {} ms", per_pixel(side, time), shown(time.as_nanos() as f64 / 1e6))
+}
+
+/// How many times clang's time, and gcc's, the library takes.
+fn ratios([library, clang, gcc]: Times) -> [String; 2] {
+    [clang, gcc].map(|time| format!("{:.2}", library.as_secs_f64() / time.as_secs_f64()))
+}
+
+/// The library's time, and its ratios to clang's and to gcc's.
+fn cell(side: usize, times: Times) -> String {
+    format!("{} ({})", per_pixel(side, times[0]), ratios(times).join(", "))
+}
+
+/// A call's times at each side.
+struct Row {
+    call: String,
+    times: Vec<(usize, Times)>,
+}
+
+impl Row {
+    fn text(&self) -> String {
+        let mut cells = vec![self.call.clone()];
+        cells.extend(self.times.iter().map(|&(side, times)| cell(side, times)));
+        format!("| {} |", cells.join(" | "))
+    }
+}
+
+/// A row for each call, in the order in which they were first timed.
+#[derive(Default)]
+pub struct Table(Vec<Row>);
+
+impl Table {
+    /// Adds what was timed, and tells it on standard error.
+    pub fn add(&mut self, call: &str, side: usize, times: Times) {
+        let [library, clang, gcc] = times.map(|time| told(side, time));
+        let [of_clang, of_gcc] = ratios(times);
+        eprintln!(
+            "{call}, {side} by {side}: {library}; clang {clang}, ratio {of_clang}; gcc {gcc}, ratio {of_gcc}"
+        );
+        match self.0.iter_mut().find(|row| row.call == call) {
+            Some(row) => row.times.push((side, times)),
+            None => self.0.push(Row { call: call.to_string(), times: vec![(side, times)] }),
+        }
+    }
+
+    pub fn print(&self, sides: &[usize]) {
+        let sides = sides.iter().map(|&side| shown(side as f64)).map(|side| format!("{side} by {side}"));
+        let mut heads = vec!["ns per pixel (times clang's, times gcc's)".to_string()];
+        heads.extend(sides);
+        println!("| {} |", heads.join(" | "));
+        println!("|{}", "---|".repeat(heads.len()));
+        self.0.iter().for_each(|row| println!("{}", row.text()));
+    }
+}
