@@ -12,6 +12,7 @@ pub mod compiled;
 pub mod estimate;
 pub mod finishing;
 pub mod finishing_examples;
+pub mod frame_calls;
 pub mod low_band;
 pub mod mosaic;
 pub mod mosaics;

@@ -1,5 +1,6 @@
 //! The header `include/demosaic.h` declares the functions that the library's source has, no others, with the same types and
-//! names; so does `src/library.rs`. The header stands by itself, in C and in C++, and the library has what it declares.
+//! names; so do `src/library.rs` and `src/frame_calls.rs`. The header stands by itself, in C and in C++, and the library has
+//! what it declares.
 
 use checks::compiled::{compile, in_repository};
 use std::collections::BTreeMap;
@@ -150,15 +151,22 @@ fn a_wrong_prototype_is_noticed() {
     }
 }
 
+/// The functions that a file of these tests declares, in its one block. A macro's names stand behind a `$`.
+fn declared(path: &str) -> Prototypes {
+    let source = file(path).replace('$', "");
+    let (_, block) = source.split_once("unsafe extern \"C\" {\n").expect("the declarations");
+    let (block, _) = block.split_once('}').expect("the declarations' end");
+    functions(block, "fn ", of_rust)
+}
+
 /// No Rust test makes the call of the packet's refusal: a C program does.
 #[test]
 fn the_tests_declare_what_the_header_declares() {
-    let library = file("checks/src/library.rs");
-    let (_, block) = library.split_once("unsafe extern \"C\" {\n").expect("the declarations");
-    let (block, _) = block.split_once("\n}\n").expect("the declarations' end");
+    let mut found = declared("checks/src/library.rs");
+    found.extend(declared("checks/src/frame_calls.rs"));
     let mut header = of_c(&code(&file("include/demosaic.h")));
     header.remove("demosaic_packet_refusal").expect("the packet's refusal");
-    assert_eq!(difference(&functions(block, "fn ", of_rust), &header), None);
+    assert_eq!(difference(&found, &header), None);
 }
 
 /// Compiles and links a program that has the address of every function and takes in the header twice, and nothing before it.
