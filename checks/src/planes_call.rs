@@ -5,7 +5,7 @@ use crate::buffers::Buffer;
 use crate::chance::Chance;
 use crate::packet::Fields;
 use crate::refusals::{
-    answered, short_work, sufficient_work, wrong_lengths, Counts, FrameCall, LARGEST, NO_LENGTH, NO_SAMPLE,
+    answered, short_work, sufficient_work, wrong_field, wrong_lengths, Counts, FrameCall, LARGEST, NO_SAMPLE,
     SHAPES, TRIES, TRIES_IN_THE_LARGEST,
 };
 use std::marker::PhantomData;
@@ -203,11 +203,7 @@ impl<C: PlanesCall> FrameCall for Ask<C> {
             let no_sample = chance.one_of(&NO_SAMPLE);
             let plane = chance.place(3);
             match question {
-                1 => ask.fields.width = chance.one_of(&NO_LENGTH),
-                2 => ask.fields.height = chance.one_of(&NO_LENGTH),
-                3 => ask.fields.layout = chance.between(4, 255) as u8,
-                4 => ask.fields.rounds = chance.between(65, 255) as u8,
-                5 => ask.fields.threshold = chance.between(4096, 65_535) as u16,
+                1..=5 => wrong_field(chance, &mut ask.fields, *question),
                 6 => ask.mosaic = chance.samples(length),
                 7 => ask.planes[plane] = C::plane(chance, length),
                 8 => ask.work = chance.one_of(&[0, count, 8 * count - 1]),

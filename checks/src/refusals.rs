@@ -3,6 +3,7 @@
 use std::collections::BTreeMap;
 
 use crate::chance::Chance;
+use crate::packet::Fields;
 
 /// No width and no height. Some of them would be in range, or give the right product, in fewer bits.
 pub const NO_LENGTH: [usize; 10] =
@@ -43,6 +44,18 @@ pub const LARGEST: usize = 2048 * 2048;
 /// The first, a middle and the last place of the largest frame, and what is tried there.
 pub const TRIES_IN_THE_LARGEST: [(usize, u16); 3] =
     [(0, 65_535), (LARGEST / 2 + 77, 4096), (LARGEST - 1, 4096)];
+
+/// Answers one of questions 1 to 5 no.
+pub fn wrong_field(chance: &mut Chance, fields: &mut Fields, question: u32) {
+    match question {
+        1 => fields.width = chance.one_of(&NO_LENGTH),
+        2 => fields.height = chance.one_of(&NO_LENGTH),
+        3 => fields.layout = chance.between(4, 255) as u8,
+        4 => fields.rounds = chance.between(65, 255) as u8,
+        5 => fields.threshold = chance.between(4096, 65_535) as u16,
+        _ => panic!("no field has question {question}"),
+    }
+}
 
 /// Every set of the questions, each in their order.
 pub fn sets(questions: &[u32]) -> Vec<Vec<u32>> {

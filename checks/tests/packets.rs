@@ -6,8 +6,8 @@ use checks::buffers::{assert_same, Buffer};
 use checks::chance::Chance;
 use checks::packet::{self, Fields, PRINTED};
 use checks::refusals::{
-    answered, refusals, sets, wrong_lengths, Counts, FrameCall, LARGEST, NO_LENGTH, NO_SAMPLE, SHAPES, TRIES,
-    TRIES_IN_THE_LARGEST,
+    answered, refusals, sets, wrong_field, wrong_lengths, Counts, FrameCall, LARGEST, NO_SAMPLE, SHAPES,
+    TRIES, TRIES_IN_THE_LARGEST,
 };
 use checks::stores::{damaged, described, sound, wrong, Stores, QUESTIONS};
 
@@ -142,11 +142,7 @@ impl FrameCall for Writing {
         let mut ask = Writing::sound(chance, width, height);
         for question in questions {
             match question {
-                1 => ask.fields.width = chance.one_of(&NO_LENGTH),
-                2 => ask.fields.height = chance.one_of(&NO_LENGTH),
-                3 => ask.fields.layout = chance.between(4, 255) as u8,
-                4 => ask.fields.rounds = chance.between(65, 255) as u8,
-                5 => ask.fields.threshold = chance.between(4096, 65_535) as u16,
+                1..=5 => wrong_field(chance, &mut ask.fields, *question),
                 6 => {
                     let length = chance.one_of(&[count - 1, count + 1, 100]);
                     ask.samples = chance.samples(length);

@@ -42,7 +42,7 @@ abbrev pub ShapeLeaves : ℕ → Picture Unit → Picture Unit → Picture Unit 
 ShapeLeaves turn given before after =
     after ≡ if-accepted (shape-turn-questions turn (given .width) (given .height) (given .layout)) (shape-turned turn (given .width) (given .height) (given .layout)) before
 
--- the places of a turned width or height; 0 where it was refused
+-- inner: the places of a turned width or height; 0 where it was refused
 abbrev pub places-of : Extent → ℕ
 places-of (extent.Places n) = n
 places-of (extent.Refused number) = 0
