@@ -8,7 +8,8 @@ use Rattle.packet.specs.Packet.{distance, fields-of, repeats}
 use Rattle.packet.specs.Calls.{read-questions, write-questions, repeat-questions}
 use Rattle.packet.specs.declared.Fields.{Fields}
 use Rattle.turns.specs.Pictures.{Picture, then-another}
-use Rattle.turns.specs.Turning.{then-questions, shape-turn-questions, shape-turned}
+use Rattle.turns.specs.Frames.{Frame, turn-frame}
+use Rattle.turns.specs.Turning.{then-questions, shape-turn-questions, shape-turned, frame-questions}
 use Rattle.turns.specs.declared.Extent.{Extent}
 use Rattle.turns.specs.declared.Extent.the-variants as extent
 
@@ -41,6 +42,12 @@ shape width height layout = record { width = width; height = height; layout = la
 abbrev pub ShapeLeaves : ℕ → Picture Unit → Picture Unit → Picture Unit → Type 0
 ShapeLeaves turn given before after =
     after ≡ if-accepted (shape-turn-questions turn (given .width) (given .height) (given .layout)) (shape-turned turn (given .width) (given .height) (given .layout)) before
+
+-- the same, of the turning call, given frame f and a second buffer of `room`
+abbrev pub TurnedShapeLeaves : ℕ → Frame → ℕ → Picture Unit → Picture Unit → Type 0
+TurnedShapeLeaves turn f room before after =
+    let t = turn-frame turn f in
+    after ≡ if-accepted (frame-questions turn f room) (shape (t .width) (t .height) (t .layout)) before
 
 -- inner: the places of a turned width or height; 0 where it was refused
 abbrev pub places-of : Extent → ℕ

@@ -10,6 +10,7 @@ use turns::Turn;
 use turns::TurnedFrame;
 use turns::TurnedLayout;
 ghost use mathlib.Core.Path.{_≡_};
+ghost use Prim.Native.Nat.{min};
 ghost use lib.ListN.{length};
 ghost use Rattle.questions.specs.Questions.{ask, ceiling};
 ghost use Rattle.questions.specs.Answers.{Numbered};
@@ -24,7 +25,7 @@ ghost use Rattle.update.specs.Calls.{update-questions, UpdateLeaves};
 ghost use Rattle.rounds.specs.Calls.{rounds-questions, RoundsLeaves};
 ghost use Rattle.finishing.specs.Tally.{finished-after, refused-after, rounds-after, zero-tally};
 ghost use Rattle.finishing.specs.Calls.{finish-call, FinishNumber};
-ghost use Rattle.demosaic_c.specs.Pointers.{fields, shape, places-of, FieldsLeaves, LengthLeaves, RepeatLeaves, SingleLeaves, ShapeLeaves};
+ghost use Rattle.demosaic_c.specs.Pointers.{fields, shape, places-of, FieldsLeaves, LengthLeaves, RepeatLeaves, SingleLeaves, ShapeLeaves, TurnedShapeLeaves};
 
 // A packet's refusal number by the reader's questions, 0 for sound.
 #[no_mangle]
@@ -122,23 +123,45 @@ pub extern "C" fn demosaic_packet_repeats(a: &[u8], b: &[u8], same: &mut u8) -> 
     }
 }
 
-// The turned samples into `out`; 0 or the refusal's number.
+// A turn or a layout of C as the byte that the engine takes. What is above 255 becomes 255, which the same question refuses.
+fn byte(n: u32) -> u8
+    ensures { λ r. ⌜ r ≡ min n 255 ⌝ }
+{
+    if 255 < n {
+        return 255;
+    }
+    n as u8
+}
+
+// The turned samples into `out`, and the turned width, height and layout into three numbers; 0 or the refusal's number.
 #[no_mangle]
 pub extern "C" fn demosaic_turn(
-    turn: u8,
+    turn: u32,
     width: usize,
     height: usize,
-    layout: u8,
+    layout: u32,
     samples: &[u16],
     out: &mut [u16],
+    turned_width: &mut usize,
+    turned_height: &mut usize,
+    turned_layout: &mut u32,
 ) -> u32
-    ensures { λ r. ⌜ Numbered (frame-questions turn (frame width height layout (now (samples .entry))) (length (now (out .entry)))) (TurnLeaves turn (frame width height layout (now (samples .entry))) (now (out .entry)) (now (out .exit))) r ⌝ }
+    ensures { λ r. ⌜ Numbered (frame-questions turn (frame width height layout (now (samples .entry))) (length (now (out .entry)))) (TurnLeaves turn (frame width height layout (now (samples .entry))) (now (out .entry)) (now (out .exit)) × TurnedShapeLeaves turn (frame width height layout (now (samples .entry))) (length (now (out .entry))) (shape (now («turned_width» .entry)) (now («turned_height» .entry)) (now («turned_layout» .entry))) (shape (now («turned_width» .exit)) (now («turned_height» .exit)) (now («turned_layout» .exit)))) r ⌝ }
 {
-    let t = Turn { number: turn };
-    let answer = turns::turn_samples(t, width, height, layout, samples, out);
+    let t = Turn { number: byte(turn) };
+    let answer = turns::turn_samples(t, width, height, byte(layout), samples, out);
     match answer {
         TurnedFrame::Refused(number) => number,
-        TurnedFrame::Accepted { .. } => 0,
+        TurnedFrame::Accepted {
+            width: w,
+            height: h,
+            layout: l,
+        } => {
+            *turned_width = w;
+            *turned_height = h;
+            *turned_layout = l as u32;
+            0
+        }
     }
 }
 
@@ -155,26 +178,27 @@ fn places(extent: Extent) -> usize
 // The turned width, height and layout, into three numbers; 0 or the refusal's number.
 #[no_mangle]
 pub extern "C" fn demosaic_turned_shape(
-    turn: u8,
+    turn: u32,
     width: usize,
     height: usize,
-    layout: u8,
+    layout: u32,
     turned_width: &mut usize,
     turned_height: &mut usize,
-    turned_layout: &mut u8,
+    turned_layout: &mut u32,
 ) -> u32
     ensures { λ r. ⌜ Numbered (shape-turn-questions turn width height layout) (ShapeLeaves turn (shape width height layout) (shape (now («turned_width» .entry)) (now («turned_height» .entry)) (now («turned_layout» .entry))) (shape (now («turned_width» .exit)) (now («turned_height» .exit)) (now («turned_layout» .exit)))) r ⌝ }
 {
-    let t = Turn { number: turn };
-    let w = places(t.turned_width(width, height, layout));
-    let h = places(t.turned_height(width, height, layout));
-    let answer = t.turned_layout(width, height, layout);
+    let t = Turn { number: byte(turn) };
+    let given = byte(layout);
+    let w = places(t.turned_width(width, height, given));
+    let h = places(t.turned_height(width, height, given));
+    let answer = t.turned_layout(width, height, given);
     match answer {
         TurnedLayout::Refused(number) => number,
         TurnedLayout::Layout(l) => {
             *turned_width = w;
             *turned_height = h;
-            *turned_layout = l;
+            *turned_layout = l as u32;
             0
         }
     }
@@ -182,15 +206,15 @@ pub extern "C" fn demosaic_turned_shape(
 
 // The one turn that does what two do, into `single`; 0 or the refusal's number.
 #[no_mangle]
-pub extern "C" fn demosaic_then_another(turn: u8, next: u8, single: &mut u8) -> u32
+pub extern "C" fn demosaic_then_another(turn: u32, next: u32, single: &mut u32) -> u32
     ensures { λ r. ⌜ Numbered (then-questions turn next) (SingleLeaves turn next (now (single .entry)) (now (single .exit))) r ⌝ }
 {
-    let t = Turn { number: turn };
-    let answer = t.then_another(Turn { number: next });
+    let t = Turn { number: byte(turn) };
+    let answer = t.then_another(Turn { number: byte(next) });
     match answer {
         Composed::Refused(number) => number,
         Composed::Single(s) => {
-            *single = s.number;
+            *single = s.number as u32;
             0
         }
     }
