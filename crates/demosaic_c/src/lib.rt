@@ -149,17 +149,18 @@ pub extern "C" fn demosaic_turn(
     ensures { λ r. ⌜ Numbered (frame-questions turn (frame width height layout (now (samples .entry))) (length (now (out .entry)))) (TurnLeaves turn (frame width height layout (now (samples .entry))) (now (out .entry)) (now (out .exit)) × TurnedShapeLeaves turn (frame width height layout (now (samples .entry))) (length (now (out .entry))) (shape (now («turned_width» .entry)) (now («turned_height» .entry)) (now («turned_layout» .entry))) (shape (now («turned_width» .exit)) (now («turned_height» .exit)) (now («turned_layout» .exit)))) r ⌝ }
 {
     let t = Turn { number: byte(turn) };
-    let answer = turns::turn_samples(t, width, height, byte(layout), samples, out);
+    let given = byte(layout);
+    let answer = turns::turn_samples(t, width, height, given, samples, out);
     match answer {
         TurnedFrame::Refused(number) => number,
         TurnedFrame::Accepted {
-            width: w,
-            height: h,
-            layout: l,
+            width: across,
+            height: down,
+            layout: turned,
         } => {
-            *turned_width = w;
-            *turned_height = h;
-            *turned_layout = l as u32;
+            *turned_width = across;
+            *turned_height = down;
+            *turned_layout = turned as u32;
             0
         }
     }

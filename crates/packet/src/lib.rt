@@ -223,9 +223,9 @@ fn write_refusal(f: Fields, samples: &[u16], room: usize) -> u32
 pub fn write_packet(f: Fields, samples: &[u16], out: &mut [u8]) -> WrittenPacket
     ensures { λ r. ⌜ WriteResult f (now (samples .entry)) (now (out .entry)) r (now (out .exit)) ⌝ }
 {
-    let number = write_refusal(f, samples, out.len());
-    if number != 0 {
-        return WrittenPacket::Refused(number);
+    let refusal = write_refusal(f, samples, out.len());
+    if refusal != 0 {
+        return WrittenPacket::Refused(refusal);
     }
     let at = 2 * samples.len();
     let written = at + 12;

@@ -1,4 +1,4 @@
-// Document 01's program, on bytes: the number of its refusal, and its text.
+// Inner: document 01's program on bytes, for `main` alone: the number of its refusal, and its text, which a refusal has too.
 use finishing::Tally;
 use packet::Fields;
 use packet::ReadPacket;
