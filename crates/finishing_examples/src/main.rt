@@ -1,6 +1,5 @@
 // Demand 3 on small frames, printed. What this program writes is held against the file stdout, which the reference program in
 // checks/ makes from document 01 alone.
-mod alike;
 mod frames;
 mod print;
 mod refused;

@@ -1,9 +1,8 @@
 // An example, run and printed.
-use crate::alike;
-use crate::alike::Numbers;
 use crate::frames;
 use crate::frames::Example;
 use crate::print;
+use demand_3::Numbers;
 
 // A line of the turns, a line of both numbers, and a line of each mosaic.
 fn print_turned(turns: &[u8], numbers: Numbers, e: Example, first: &[u16; 12], second: &[u16; 12]) {
@@ -64,7 +63,7 @@ pub(crate) fn show(turns: &[u8], e: Example) {
     let g = e.green % 13;
     let b = e.blue % 13;
     let w = e.work % 98;
-    let numbers = alike::finish_turned(
+    let numbers = demand_3::finish_turned(
         turns,
         e.width,
         e.height,

@@ -11,7 +11,7 @@ use Rattle.turns.specs.Turning.{number-of-frame, accepted-as, TurnResult}
 use Rattle.turns.specs.declared.TurnedFrame.{TurnedFrame}
 use Rattle.turns.specs.declared.TurnedFrame.the-variants.{Refused}
 use Rattle.finishing.specs.Turnings.{TurnRun, left-by, TurnHistory, standing, if-turned, accepted-turns}
-use Rattle.finishing_examples.specs.Between.{Between, between, turn-questions, turned-once, turned-all, turns-taken}
+use Rattle.demand_3.specs.Between.{Between, between, turn-questions, turned-once, turned-all, turns-taken}
 
 -- ---- a turning call
 -- its answer, by the number of the first question answered no

@@ -9,9 +9,9 @@ use Rattle.turns.specs.Frames.{Frame, frame, Planes, lengths}
 use Rattle.finishing.specs.Tally.{zero-tally}
 use Rattle.finishing.specs.Calls.{finish-call, FinishNumber}
 use Rattle.finishing.specs.Turnings.{turned-planes}
-use Rattle.finishing_examples.specs.Between.{Between, between, first-holds, second-holds, turned-once, turned-all, turns-taken}
-use Rattle.finishing_examples.specs.declared.alike.Numbers.{Numbers}
-use Rattle.finishing_examples.specs.declared.alike.Standing.{Standing}
+use Rattle.demand_3.specs.Between.{Between, between, first-holds, second-holds, turned-once, turned-all, turns-taken}
+use Rattle.demand_3.specs.declared.Numbers.{Numbers}
+use Rattle.demand_3.specs.declared.Standing.{Standing}
 
 -- the frame that stands, by its shape and by which of two mosaics holds its samples
 abbrev pub stands : Standing → List ℕ → List ℕ → Between

@@ -1,10 +1,10 @@
--- `finishing_examples::alike::turn_once` meets its contract.
+-- `demand_3::turn_once` meets its contract.
 -- Assumes nothing.
 use denote.Ref.{now}
-use Rattle.finishing_examples.proofs.Moving.{once-second, once-first}
+use Rattle.demand_3.proofs.Moving.{once-second, once-first}
 use borrow.Author.Needs.{needs}
-use Rattle.finishing_examples.proofs.alike.turn_once.Statement.{statement}
-use Rattle.finishing_examples.proofs.alike.turn_once.Tie as tie
+use Rattle.demand_3.proofs.turn_once.Statement.{statement}
+use Rattle.demand_3.proofs.turn_once.Tie as tie
 
 turn-between-requires : tie.Need-turn-between-requires
 turn-between-requires c κs = search needs

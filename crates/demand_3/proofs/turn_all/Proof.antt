@@ -1,4 +1,4 @@
--- `finishing_examples::alike::turn_all` meets its contract.
+-- `demand_3::turn_all` meets its contract.
 -- Assumes nothing.
 use mathlib.Core.Path.{_≡_, refl}
 use Prim.Native.Nat.{_≤_, _-_}
@@ -6,11 +6,11 @@ use native.Mathlib.Omega.{arith}
 use lib.ListN.{length, drop}
 use denote.Ref.{now}
 use borrow.Author.Needs.{needs}
-use Rattle.finishing_examples.specs.Between.{turned-all}
-use Rattle.finishing_examples.specs.Alike.{stands}
-use Rattle.finishing_examples.proofs.Moving.{all-step, all-done}
-use Rattle.finishing_examples.proofs.alike.turn_all.Statement.{statement}
-use Rattle.finishing_examples.proofs.alike.turn_all.Tie as tie
+use Rattle.demand_3.specs.Between.{turned-all}
+use Rattle.demand_3.specs.Alike.{stands}
+use Rattle.demand_3.proofs.Moving.{all-step, all-done}
+use Rattle.demand_3.proofs.turn_all.Statement.{statement}
+use Rattle.demand_3.proofs.turn_all.Tie as tie
 
 abbrev Inv-loop : tie.InvT-loop
 Inv-loop turns first₀ second₀ at₀ k₀ first second at k =

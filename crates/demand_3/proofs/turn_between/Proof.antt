@@ -1,10 +1,10 @@
--- `finishing_examples::alike::turn_between` meets its contract.
+-- `demand_3::turn_between` meets its contract.
 -- Assumes nothing.
 use denote.Ref.{now}
-use Rattle.finishing_examples.proofs.Moving.{moved-yes, moved-no}
+use Rattle.demand_3.proofs.Moving.{moved-yes, moved-no}
 use borrow.Author.Needs.{needs}
-use Rattle.finishing_examples.proofs.alike.turn_between.Statement.{statement}
-use Rattle.finishing_examples.proofs.alike.turn_between.Tie as tie
+use Rattle.demand_3.proofs.turn_between.Statement.{statement}
+use Rattle.demand_3.proofs.turn_between.Tie as tie
 
 turn-samples-requires : tie.Need-turn-samples-requires
 turn-samples-requires c κs = search needs

@@ -16,10 +16,10 @@ use Rattle.finishing.specs.Tally.{zero-tally}
 use Rattle.finishing.specs.Calls.{finish-call, FinishNumber}
 use Rattle.finishing.specs.Turnings.{turned-planes}
 use Rattle.finishing.proofs.Demand3.{leaves-turned, finished-alike}
-use Rattle.finishing_examples.specs.Between.{Between, between, first-holds, second-holds, turned-once, turned-all}
-use Rattle.finishing_examples.specs.Alike.{stands, Moved, Lent, FinishedAlike}
-use Rattle.finishing_examples.specs.declared.alike.Standing.{Standing}
-use Rattle.finishing_examples.proofs.Histories.{runs-of, history-of, standing-of, taken-of}
+use Rattle.demand_3.specs.Between.{Between, between, first-holds, second-holds, turned-once, turned-all}
+use Rattle.demand_3.specs.Alike.{stands, Moved, Lent, FinishedAlike}
+use Rattle.demand_3.specs.declared.Standing.{Standing}
+use Rattle.demand_3.proofs.Histories.{runs-of, history-of, standing-of, taken-of}
 
 abbrev standing-at : ℕ → ℕ → ℕ → Bool → Standing
 standing-at w h l swapped = record { width = w; height = h; layout = l; swapped = swapped }

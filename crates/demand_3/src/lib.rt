@@ -6,21 +6,21 @@ ghost use mathlib.Core.Path.{_≡_};
 ghost use Rattle.turns.specs.Frames.{frame, planes};
 ghost use Rattle.finishing.specs.Tally.{zero-tally};
 ghost use Rattle.finishing.specs.Calls.{finish-call, FinishNumber};
-ghost use Rattle.finishing_examples.specs.Between.{turned-once, turned-all};
-ghost use Rattle.finishing_examples.specs.Alike.{stands, Moved, lent, FinishedAlike};
+ghost use Rattle.demand_3.specs.Between.{turned-once, turned-all};
+ghost use Rattle.demand_3.specs.Alike.{stands, Moved, lent, FinishedAlike};
 
 // Where the frame stands: its width, height and layout, and whether the second mosaic holds its samples.
-pub(crate) struct Standing {
-    pub(crate) width: usize,
-    pub(crate) height: usize,
-    pub(crate) layout: u8,
-    pub(crate) swapped: bool,
+struct Standing {
+    width: usize,
+    height: usize,
+    layout: u8,
+    swapped: bool,
 }
 
 // The numbers of both finishings, 0 for accepted.
-pub(crate) struct Numbers {
-    pub(crate) given: u32,
-    pub(crate) turned: u32,
+pub struct Numbers {
+    pub given: u32,
+    pub turned: u32,
 }
 
 // A turning call from one mosaic into the other.
@@ -123,7 +123,7 @@ fn finish_standing(
 }
 
 // Finishes the frame in the first mosaic; turns it by these turns, back and forth between the two; finishes what stands then.
-pub(crate) fn finish_turned(
+pub fn finish_turned(
     turns: &[u8],
     width: usize,
     height: usize,

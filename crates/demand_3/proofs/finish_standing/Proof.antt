@@ -1,10 +1,10 @@
--- `finishing_examples::alike::finish_standing` meets its contract.
+-- `demand_3::finish_standing` meets its contract.
 -- Assumes nothing.
 use denote.Ref.{now}
-use Rattle.finishing_examples.proofs.Moving.{finished-standing}
+use Rattle.demand_3.proofs.Moving.{finished-standing}
 use borrow.Author.Needs.{needs}
-use Rattle.finishing_examples.proofs.alike.finish_standing.Statement.{statement}
-use Rattle.finishing_examples.proofs.alike.finish_standing.Tie as tie
+use Rattle.demand_3.proofs.finish_standing.Statement.{statement}
+use Rattle.demand_3.proofs.finish_standing.Tie as tie
 
 finish-number-requires : tie.Need-finish-number-requires
 finish-number-requires c κs = search needs

@@ -1,12 +1,12 @@
--- `finishing_examples::alike::finish_turned` meets its contract: demand 3, with the turning calls that ran.
+-- `demand_3::finish_turned` meets its contract: demand 3, with the turning calls that ran.
 -- Assumes nothing.
 use denote.Ref.{now}
 use Rattle.turns.specs.Frames.{frame, planes}
-use Rattle.finishing_examples.specs.Alike.{lent}
-use Rattle.finishing_examples.proofs.Moving.{run-alike}
+use Rattle.demand_3.specs.Alike.{lent}
+use Rattle.demand_3.proofs.Moving.{run-alike}
 use borrow.Author.Needs.{needs}
-use Rattle.finishing_examples.proofs.alike.finish_turned.Statement.{statement}
-use Rattle.finishing_examples.proofs.alike.finish_turned.Tie as tie
+use Rattle.demand_3.proofs.finish_turned.Statement.{statement}
+use Rattle.demand_3.proofs.finish_turned.Tie as tie
 
 finish-number-requires : tie.Need-finish-number-requires
 finish-number-requires c κs = search needs
