@@ -9,7 +9,7 @@ use Rattle.integers.specs.Numbers.{whole-divided, rounded, clamp}
 use Rattle.turns.specs.Frames.{listing, plane-of}
 use Rattle.filters.specs.Bank.{split, join, filtered, along-rows, along-columns, along, tap, weighted, low-split, high-split, low-join, high-join}
 use Rattle.bank.specs.Calls.{split-lists, join-list}
-use Rattle.estimate.specs.Estimates.{around, greens, two-away, gradient, along-line, along-both, eight-greens, hamilton-adams}
+use Rattle.neighbourhood.specs.Place.{around, greens, two-away, gradient, along-line, along-both, eight-greens, hamilton-adams}
 use Rattle.turns.specs.Layout.{red-row, red-column}
 use Rattle.projection.specs.Projection.{held, hold-details, held-sum}
 use Rattle.rounds.specs.Rounds.{limit-of, kept, put-observed, round, after-rounds, rewritten, rounds}

@@ -9,7 +9,7 @@ use Rattle.filters.specs.Bank.{Bands}
 use Rattle.bank.specs.Calls.{split-lists, join-list}
 use Rattle.questions.specs.Questions.{ceiling}
 use Rattle.turns.specs.Frames.{Planes, frame, planes}
-use Rattle.estimate.specs.Estimates.{around, hamilton-adams}
+use Rattle.neighbourhood.specs.Place.{around, hamilton-adams}
 use Rattle.projection.specs.Projection.{held}
 use Rattle.rounds.specs.Rounds.{limit-of}
 use Rattle.rounds.specs.Calls.{rounds-lists}

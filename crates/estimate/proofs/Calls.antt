@@ -9,7 +9,7 @@ use Rattle.questions.specs.Questions.{ask, ceiling}
 use Rattle.questions.proofs.Asking.{all-yes, Shape, shape-is}
 use Rattle.questions.proofs.Answering.{answer-no, answer-yes, left-no, left-yes}
 use Rattle.turns.specs.Frames.{Frame, Planes, lengths}
-use Rattle.estimate.specs.Inner.{Mosaic}
+use Rattle.neighbourhood.specs.Inner.{Mosaic}
 use Rattle.estimate.specs.Calls.{estimate-questions, number-of-answer, estimate-lists, EstimateResult}
 use Rattle.estimate.specs.declared.EstimateAnswer.the-variants.{Accepted, Refused}
 

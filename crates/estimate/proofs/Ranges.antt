@@ -16,7 +16,8 @@ use Rattle.turns.specs.Layout.{Colour, red, green, blue, by-parity, on-red-row,
 use Rattle.turns.specs.Operations.{Around, nearby}
 use Rattle.turns.specs.Frames.{Frame, Planes, plane-of}
 use Rattle.turns.proofs.Frames.{plane-bound, listing-bound}
-use Rattle.estimate.specs.Estimates.{row-of, column-of, eight-greens, hamilton-adams, green-at, of-two, of-four, bilinear, estimate-at, estimate}
+use Rattle.neighbourhood.specs.Place.{row-of, column-of, eight-greens, hamilton-adams, green-at, of-two, of-four, bilinear}
+use Rattle.estimate.specs.Estimates.{estimate-at, estimate}
 use Rattle.estimate.specs.Calls.{estimate-lists}
 
 module _ (top : ℕ) where

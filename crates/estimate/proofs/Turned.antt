@@ -13,7 +13,8 @@ use Rattle.turns.specs.Layout.{by-parity}
 use Rattle.turns.specs.Operations.{Around}
 use Rattle.turns.specs.Pictures.{Picture, turned, _≈_}
 use Rattle.turns.proofs.Commuting.{Commutes, same, nearby-commutes, apply, apply-turned}
-use Rattle.estimate.specs.Estimates.{row-of, column-of, greens, two-away, gradient, along-line, along-both, eight-greens, hamilton-adams, green-at, of-two, of-four, bilinear, estimate-at, estimate}
+use Rattle.neighbourhood.specs.Place.{row-of, column-of, greens, two-away, gradient, along-line, along-both, eight-greens, hamilton-adams, green-at, of-two, of-four, bilinear}
+use Rattle.estimate.specs.Estimates.{estimate-at, estimate}
 
 -- ---- green, rows and columns exchanged
 both-exchange : (row column : ℤ → ℤ) → row (pos 0) ≡ column (pos 0) → along-both column row ≡ along-both row column

@@ -11,8 +11,8 @@ use Rattle.integers.specs.Lists.{overwrite}
 use Rattle.integers.proofs.Lists.{overwrite-none, overwrite-step}
 use Rattle.turns.specs.Frames.{plane-of}
 use Rattle.turns.specs.Layout.{on-red-row, on-red-column}
-use Rattle.estimate.specs.Estimates.{neighbourhood, around, bilinear}
-use Rattle.estimate.proofs.Neighbours.{inner-from}
+use Rattle.neighbourhood.specs.Place.{neighbourhood, around, bilinear}
+use Rattle.neighbourhood.proofs.Neighbours.{inner-from}
 use Rattle.estimate.proofs.Parts.{part-room, part-laid}
 use Rattle.estimate.proofs.colour_inside.Statement.{statement}
 use Rattle.estimate.proofs.colour_inside.Tie as tie
@@ -50,8 +50,9 @@ has-red-row-requires c κs = search needs
 
 loop-holds : tie.Need-loop-holds Inv-loop μ-loop
 loop-holds c =
-    let a = c .before .before .before .args in
-    (omega arith, overwrite-none (now (a .plane)) (a .r * a .width + a .first) _, refl)
+    let s = c .before .before .before in
+    let a = s .args in
+    (omega arith, overwrite-none (now (a .plane)) (a .r * a .width + a .first) (Row s), refl)
 
 add-inside : tie.Need-add-inside Inv-loop μ-loop
 add-inside c = record { fits = omega (arith, c .loop-test .taken, Entry (c .before) .pre .1 .0, Entry (c .before) .pre .0 .0 .width-to) }
@@ -93,7 +94,7 @@ loop-again c =
     let a = s .args in
     let v = l .loop .inv in
     let at = a .r * a .width + a .first in
-    (omega (arith, c .before .before .before .loop-test .taken), overwrite-step (now (a .plane)) at (l .loop .k) (Row s) (at + l .loop .k) refl (v .1) (c .bilinear-estimate .ensures ∙ (λ i. bilinear (Bool·beq (l .before .has-red-row .ensures i) (a .is-red)) (Bool·beq (c .before .has-red-column .ensures i) (a .is-red)) (around (c .before .before .inside .ensures i)))) (omega (arith, place-fits (c .before .before .before), s .pre .1 .1)), simp length-set (v .2))
+    (omega (arith, c .before .before .before .loop-test .taken), overwrite-step (now (a .plane)) at (l .loop .k) (Row s) (at + l .loop .k) refl (v .1) (_∙_ {c = Row s (l .loop .k)} (c .bilinear-estimate .ensures) (λ i. bilinear (Bool·beq (l .before .has-red-row .ensures i) (a .is-red)) (Bool·beq (c .before .has-red-column .ensures i) (a .is-red)) (around (c .before .before .inside .ensures i)))) (omega (arith, place-fits (c .before .before .before), s .pre .1 .1)), simp length-set (v .2))
 
 same-length : tie.Need-same-length Inv-loop μ-loop
 same-length c = c .before .loop .inv .2

@@ -48,8 +48,10 @@ has-red-row-requires c κs = search needs
 
 loop-holds : tie.Need-loop-holds Inv-loop μ-loop
 loop-holds c =
-    let a = c .before .before .before .before .before .args in
-    (omega arith, overwrite-none (now (a .red)) (a .r * a .width + a .first) _, overwrite-none (now (a .green)) (a .r * a .width + a .first) _, overwrite-none (now (a .blue)) (a .r * a .width + a .first) _, refl, refl, refl)
+    let s = c .before .before .before .before .before in
+    let a = s .args in
+    let at = a .r * a .width + a .first in
+    (omega arith, overwrite-none (now (a .red)) at (Row s (λ q. q .red)), overwrite-none (now (a .green)) at (Row s (λ q. q .green)), overwrite-none (now (a .blue)) at (Row s (λ q. q .blue)), refl, refl, refl)
 
 add-neighbourhood : tie.Need-add-neighbourhood Inv-loop μ-loop
 add-neighbourhood c = record { fits = omega (arith, c .loop-test .taken, Entry (c .before) .pre .1 .0, Entry (c .before) .pre .0 .0 .width-to) }

@@ -9,8 +9,8 @@ use borrow.Author.Needs.{needs}
 use Rattle.integers.specs.Lists.{overwrite}
 use Rattle.integers.proofs.Lists.{overwrite-none, overwrite-step}
 use Rattle.turns.specs.Frames.{plane-of, Planes}
+use Rattle.neighbourhood.proofs.Neighbours.{inner-from}
 use Rattle.estimate.specs.Estimates.{estimate-at, estimate}
-use Rattle.estimate.proofs.Neighbours.{inner-from}
 use Rattle.estimate.proofs.Parts.{part-room, part-laid}
 use Rattle.estimate.proofs.Places.{placed}
 use Rattle.estimate.proofs.green_inside.Statement.{statement}
@@ -49,8 +49,9 @@ has-red-row-requires c κs = search needs
 
 loop-holds : tie.Need-loop-holds Inv-loop μ-loop
 loop-holds c =
-    let a = c .before .before .before .args in
-    (omega arith, overwrite-none (now (a .green)) (a .r * a .width + a .first) _, refl)
+    let s = c .before .before .before in
+    let a = s .args in
+    (omega arith, overwrite-none (now (a .green)) (a .r * a .width + a .first) (Row s (λ q. q .green)), refl)
 
 add-inside : tie.Need-add-inside Inv-loop μ-loop
 add-inside c = record { fits = omega (arith, c .loop-test .taken, Entry (c .before) .pre .1 .0, Entry (c .before) .pre .0 .0 .width-to) }

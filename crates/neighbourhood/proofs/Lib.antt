@@ -1,0 +1,4 @@
+pub mod Arithmetic
+pub mod Choosing
+pub mod Neighbours
+pub mod Places
