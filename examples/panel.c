@@ -1,12 +1,13 @@
 /*
  * A panel's program: it reads packets, refuses damaged ones, skips repeats, turns a mirrored head's frames, finishes
- * them and keeps the tally.
+ * them and keeps the tally. It is C from C99 on, and C++ too.
  *
  *     panel TURN FILE...
  *
  * Each FILE holds a packet, which older bytes may precede. TURN is how the head's frames have to be turned to stand
  * upright: 0 not at all, 1 for a head that reads its chip out from right to left, 2 from bottom to top, 3 both; 4 and
- * more exchange rows and columns first. A line is printed for each FILE, and at last the tally.
+ * more exchange rows and columns first. A line is printed for each FILE, and at last the tally of the finishing calls
+ * and how many frames were refused before one.
  */
 
 #include "demosaic.h"
@@ -37,11 +38,12 @@ struct tally {
     uint32_t finished, refused, rounds;
 };
 
-/* The turn of the head, the last store that was finished, and the tally. */
+/* The turn of the head, the last store that was finished, the tally, and the refusals that are no part of it. */
 struct panel {
-    uint8_t turn;
+    uint32_t turn;
     struct store last;
     struct tally tally;
+    size_t not_read, not_turned;
 };
 
 static int failed(const char *what, const char *why)
@@ -62,7 +64,7 @@ static int load(const char *path, struct store *store)
     }
     while (store->len == room) {
         room = 2 * room + 65536;
-        uint8_t *more = realloc(store->bytes, room);
+        uint8_t *more = (uint8_t *)realloc(store->bytes, room); /* this cast, as those of malloc, is for C++ */
         if (more == NULL) {
             fclose(file);
             return failed(path, "no memory");
@@ -75,14 +77,20 @@ static int load(const char *path, struct store *store)
     return wrong ? failed(path, "cannot be read") : 1;
 }
 
-static int allocate(struct buffers *b, size_t count)
+static uint16_t *new_samples(size_t count)
 {
-    b->given = malloc(count * sizeof *b->given);
-    b->mosaic = malloc(count * sizeof *b->mosaic);
-    b->red = malloc(count * sizeof *b->red);
-    b->green = malloc(count * sizeof *b->green);
-    b->blue = malloc(count * sizeof *b->blue);
-    b->work = malloc(8 * count * sizeof *b->work);
+    return (uint16_t *)malloc(count * sizeof(uint16_t));
+}
+
+static int allocate(struct buffers *b, const struct frame *frame)
+{
+    size_t count = frame->width * frame->height;
+    b->given = new_samples(count);
+    b->mosaic = new_samples(count);
+    b->red = new_samples(count);
+    b->green = new_samples(count);
+    b->blue = new_samples(count);
+    b->work = (int32_t *)malloc(DEMOSAIC_WORK_LEN(frame->width, frame->height) * sizeof(int32_t));
     return b->given != NULL && b->mosaic != NULL && b->red != NULL && b->green != NULL && b->blue != NULL &&
            b->work != NULL;
 }
@@ -103,36 +111,50 @@ static uint32_t read_frame(const struct store *store, struct frame *frame)
                                   &frame->rounds, &frame->threshold);
 }
 
-/* The packet's samples, turned; the frame's width, height and layout are turned along. */
-static uint32_t turn_frame(const struct store *store, uint8_t turn, struct frame *frame, struct buffers *b)
+/* The frame's width, height and layout are turned along. Refused, they stay. */
+static uint32_t turn_frame(uint32_t turn, struct frame *frame, struct buffers *b)
 {
-    struct frame given = *frame;
-    size_t count = given.width * given.height;
-    uint32_t number = demosaic_packet_samples(store->bytes, store->len, b->given, count);
-    if (number != 0) {
-        return number;
-    }
-    number = demosaic_turned_shape(turn, given.width, given.height, given.layout, &frame->width, &frame->height,
-                                   &frame->layout);
-    if (number != 0) {
-        return number;
-    }
-    return demosaic_turn(turn, given.width, given.height, given.layout, b->given, count, b->mosaic, count);
+    size_t count = frame->width * frame->height;
+    uint32_t layout = frame->layout;
+    uint32_t number = demosaic_turn(turn, frame->width, frame->height, layout, b->given, count, b->mosaic, count,
+                                    &frame->width, &frame->height, &layout);
+    frame->layout = (uint8_t)layout; /* an accepted layout is 0 to 3 */
+    return number;
 }
 
 static uint32_t finish_frame(const struct frame *frame, struct buffers *b)
 {
     size_t count = frame->width * frame->height;
     return demosaic_finish(frame->width, frame->height, frame->layout, frame->rounds, frame->threshold, b->mosaic,
-                           count, b->red, count, b->green, count, b->blue, count, b->work, 8 * count);
+                           count, b->red, count, b->green, count, b->blue, count, b->work,
+                           DEMOSAIC_WORK_LEN(frame->width, frame->height));
 }
 
-/* After every frame that was finished or refused. */
-static void count_frame(struct tally *tally, uint32_t number, uint8_t rounds)
+/* After every finishing call, and after no other. */
+static void count_finishing(struct tally *tally, uint32_t number, uint8_t rounds)
 {
     tally->finished = demosaic_tally_finished(tally->finished, number);
     tally->refused = demosaic_tally_refused(tally->refused, number);
     tally->rounds = demosaic_tally_rounds(tally->rounds, number, rounds);
+}
+
+/* Reads, turns and finishes. The number is that of the first call that refuses, which is counted as what it is. */
+static uint32_t make_planes(struct panel *panel, const struct store *store, struct frame *frame, struct buffers *b)
+{
+    size_t count = frame->width * frame->height;
+    uint32_t number = demosaic_packet_samples(store->bytes, store->len, b->given, count);
+    if (number != DEMOSAIC_ACCEPTED) {
+        panel->not_read++;
+        return number;
+    }
+    number = turn_frame(panel->turn, frame, b);
+    if (number != DEMOSAIC_ACCEPTED) {
+        panel->not_turned++;
+        return number;
+    }
+    number = finish_frame(frame, b);
+    count_finishing(&panel->tally, number, frame->rounds);
+    return number;
 }
 
 static uint64_t mean(const uint16_t *plane, size_t count)
@@ -146,7 +168,15 @@ static uint64_t mean(const uint16_t *plane, size_t count)
 
 static void print_refusal(const char *path, uint32_t number)
 {
-    printf("%s: refused %" PRIu32 "\n", path, number);
+    printf("%s: refused %" PRIu32 ", %s\n", path, number, demosaic_refusal_text(number));
+}
+
+/* What the panel compares. */
+static void print_frame(const char *path, const struct frame *frame, const struct buffers *b)
+{
+    size_t count = frame->width * frame->height;
+    printf("%s: %zu by %zu, red %" PRIu64 ", blue %" PRIu64 "\n", path, frame->width, frame->height,
+           mean(b->red, count), mean(b->blue, count));
 }
 
 /* Whether the store's packet, which is sound, repeats the last one that was finished. */
@@ -160,69 +190,59 @@ static int is_repeat(const struct panel *panel, const struct store *store)
     return same == 1;
 }
 
-/* Turns and finishes the frame and prints what the panel compares. The number is that of a refusal, or 0. */
-static uint32_t show_frame(const char *path, const struct store *store, uint8_t turn, struct frame *frame,
-                           struct buffers *b)
+/* Keeps the store as the last one; the one before is the caller's to free. */
+static void keep(struct panel *panel, struct store *store)
 {
-    uint32_t number = turn_frame(store, turn, frame, b);
-    if (number == 0) {
-        number = finish_frame(frame, b);
-    }
-    if (number != 0) {
-        print_refusal(path, number);
-        return number;
-    }
-    size_t count = frame->width * frame->height;
-    printf("%s: %zu by %zu, red %" PRIu64 ", blue %" PRIu64 "\n", path, frame->width, frame->height,
-           mean(b->red, count), mean(b->blue, count));
-    return 0;
+    struct store before = panel->last;
+    panel->last = *store;
+    *store = before;
 }
 
-/* One store. It is kept as the last one, and the one before freed, where its frame was finished. */
+/* Prints a line about the store. It is kept where its frame was finished. */
 static int show_store(struct panel *panel, const char *path, struct store *store)
 {
     struct frame frame;
     struct buffers b;
     uint32_t number = read_frame(store, &frame);
-    if (number != 0) {
+    if (number != DEMOSAIC_ACCEPTED) {
+        panel->not_read++;
         print_refusal(path, number);
-        count_frame(&panel->tally, number, 0);
         return 1;
     }
     if (is_repeat(panel, store)) {
         printf("%s: repeats the one before\n", path);
         return 1;
     }
-    if (!allocate(&b, frame.width * frame.height)) {
+    if (!allocate(&b, &frame)) {
         release(&b);
         return failed(path, "no memory");
     }
-    number = show_frame(path, store, panel->turn, &frame, &b);
-    release(&b);
-    count_frame(&panel->tally, number, frame.rounds);
-    if (number == 0) {
-        struct store before = panel->last;
-        panel->last = *store;
-        *store = before;
+    number = make_planes(panel, store, &frame, &b);
+    if (number == DEMOSAIC_ACCEPTED) {
+        print_frame(path, &frame, &b);
+        keep(panel, store);
+    } else {
+        print_refusal(path, number);
     }
+    release(&b);
     return 1;
 }
 
-/* A turn as an argument: any byte, since the engine itself refuses those above 7. */
-static int read_turn(const char *text, uint8_t *turn)
+/* A turn as an argument: any number of 32 bits, since the engine itself refuses those above 7. */
+static int read_turn(const char *text, uint32_t *turn)
 {
     char *end = NULL;
-    unsigned long number = strtoul(text, &end, 10);
-    if (strspn(text, "0123456789") != strlen(text) || end == text || number > UINT8_MAX) {
+    unsigned long long number = strtoull(text, &end, 10);
+    if (strspn(text, "0123456789") != strlen(text) || end == text || number > UINT32_MAX) {
         return 0;
     }
-    *turn = (uint8_t)number;
+    *turn = (uint32_t)number;
     return 1;
 }
 
 int main(int argc, char **argv)
 {
-    struct panel panel = {0};
+    struct panel panel = {0, {NULL, 0}, {0, 0, 0}, 0, 0};
     int right = 1;
     if (argc < 2 || !read_turn(argv[1], &panel.turn)) {
         fprintf(stderr, "usage: panel TURN FILE...\n");
@@ -237,7 +257,7 @@ int main(int argc, char **argv)
     if (!right) {
         return 1;
     }
-    printf("finished %" PRIu32 ", refused %" PRIu32 ", rounds %" PRIu32 "\n", panel.tally.finished,
-           panel.tally.refused, panel.tally.rounds);
+    printf("finished %" PRIu32 ", refused %" PRIu32 ", rounds %" PRIu32 "; not read %zu, not turned %zu\n",
+           panel.tally.finished, panel.tally.refused, panel.tally.rounds, panel.not_read, panel.not_turned);
     return fflush(stdout) == 0 && !ferror(stdout) ? 0 : 1;
 }

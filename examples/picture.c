@@ -84,7 +84,7 @@ static int open_frame(const struct store *store, struct frame *frame)
     frame->red = calloc(n, sizeof *frame->red);
     frame->green = calloc(n, sizeof *frame->green);
     frame->blue = calloc(n, sizeof *frame->blue);
-    frame->work = calloc(8 * n, sizeof *frame->work);
+    frame->work = calloc(DEMOSAIC_WORK_LEN(frame->width, frame->height), sizeof *frame->work);
     if (frame->mosaic == NULL || frame->red == NULL || frame->green == NULL || frame->blue == NULL
         || frame->work == NULL) {
         return failed("no memory for the frame");
@@ -143,7 +143,7 @@ static int finish(struct frame *frame)
     clock_t began = clock();
     uint32_t number = demosaic_finish(frame->width, frame->height, frame->layout, frame->rounds, frame->threshold,
                                       frame->mosaic, n, frame->red, n, frame->green, n, frame->blue, n, frame->work,
-                                      8 * n);
+                                      DEMOSAIC_WORK_LEN(frame->width, frame->height));
     double seconds = (double)(clock() - began) / CLOCKS_PER_SEC;
     if (number != 0) {
         return refused("the frame is", number);

@@ -12,7 +12,7 @@
 #include <inttypes.h>
 #include <stdio.h>
 
-enum { WIDTH = 320, HEIGHT = 240, SAMPLES = WIDTH * HEIGHT, LAYOUT = 0, ROUNDS = 8, THRESHOLD = 8 };
+enum { WIDTH = 320, HEIGHT = 240, SAMPLES = WIDTH * HEIGHT, LAYOUT = DEMOSAIC_RGGB, ROUNDS = 8, THRESHOLD = 8 };
 
 /* The light is drawn on a grid FINE times finer than the chip's. The lens spreads a point over LENS of its places. */
 enum { FINE = 4, LENS = 6, ACROSS = WIDTH * FINE, DOWN = HEIGHT * FINE };
@@ -20,7 +20,7 @@ enum { FINE = 4, LENS = 6, ACROSS = WIDTH * FINE, DOWN = HEIGHT * FINE };
 /* The row of that grid where the bed begins, at the left. */
 enum { BED = 96 * FINE };
 
-enum { BLACK = 0, GAP = 480, WHITE = 4095 };
+enum { BLACK = 0, GAP = 480, WHITE = DEMOSAIC_MAX_SAMPLE };
 
 /* What a colour has of the warmth: red lies above green, blue below it. */
 enum { BLUE = -1, GREEN = 0, RED = 1 };
@@ -244,7 +244,7 @@ int main(void)
 {
     static int32_t light[DOWN * ACROSS];
     static uint16_t mosaic[SAMPLES];
-    static uint8_t packet[2 * SAMPLES + 12];
+    static uint8_t packet[DEMOSAIC_PACKET_BYTES(WIDTH, HEIGHT)];
 
     uint32_t series = 1;
     draw_behind(light);

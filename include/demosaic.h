@@ -9,42 +9,106 @@ extern "C" {
 #endif
 
 /*
- * The burning-zone colour engine, for C. Link target/staticlib/libdemosaic_c.a.
+ * The burning-zone colour engine, for C from C99 on and C++ from C++11 on. Link target/staticlib/libdemosaic_c.a.
  *
  * Answers. A call that can refuse answers a number: 0 if it was accepted, else the number of the first question that
  * is answered no. A refused call leaves every buffer as it was, and every number behind a pointer too. What a call
  * hands back beside its number stands behind pointers, and is written only where the answer is 0.
  *
- * Questions. Each call asks those about what it was given, in this order; its comment lists them.
- *
- *   16  the turn is 0 to 7?
- *   11  the store has 12 bytes or more?
- *    1  the width is 2 to 2,048? (1 to 2,048 in the filter bank)
- *    2  the height is 2 to 2,048? (1 to 2,048 in the filter bank)
- *    3  the layout is 0 to 3?
- *    4  the rounds are at most 64?
- *    5  the threshold is at most 4,095?
- *   12  the packet's distance back is 2 * width * height + 12?
- *   13  the distance back lies within the store?
- *    6  what is given has exactly width * height numbers?
- *    7  what is filled has exactly width * height numbers? (in the rounds: each of the three planes)
- *    8  the work buffer has at least 8 * width * height numbers?
- *    9  the samples of the mosaic, or of the packet, are at most 4,095 each?
- *   10  the samples of the planes that are given are at most 4,095 each?
- *   15  the values are in the filter bank's range?
- *   14  the buffer is long enough for the packet?
- *
  * Buffers. Each is a pointer and how many numbers it has (never how many bytes, but for bytes). Mosaics, planes and
  * bands are width * height numbers, row by row. The work buffer may hold anything before; after an accepted call its
  * first 8 * width * height numbers hold 0 and the rest is untouched.
  *
- * What the caller has to keep, since no question can ask it:
- *   - each pointer is not null, even where its length is 0, aligned for its type, and valid for its length;
+ * NULL. A buffer may be NULL where its length is 0. A pointer to a single number may never be NULL.
+ *
+ * What the caller has to keep besides, since no question can ask it:
+ *   - each pointer is aligned for its type, and valid for its length or its one number;
  *   - what a call writes (buffers and numbers behind pointers that are not const) overlaps nothing else that the call
  *     is given, and nobody else reads or writes it meanwhile;
  *   - a call may need 160 KiB of stack.
  * The calls keep nothing and share nothing: several threads may call at once, each with buffers of its own.
  */
+
+/* 4 follows the customer's own versions one to three; the second is the last request of document 02 that is in it. */
+#define DEMOSAIC_VERSION_MAJOR 4
+#define DEMOSAIC_VERSION_MINOR 0
+
+/*
+ * ---- Questions
+ *
+ * Each call asks those about what it was given, in this order; its comment lists them. A call may be given any numbers
+ * that its types hold: one out of range is refused by its question.
+ */
+enum demosaic_refusal {
+    DEMOSAIC_ACCEPTED = 0,
+    DEMOSAIC_REFUSED_TURN = 16,             /* the turn is 0 to 7? */
+    DEMOSAIC_REFUSED_STORE_LENGTH = 11,     /* the store has 12 bytes or more? */
+    DEMOSAIC_REFUSED_WIDTH = 1,             /* the width is 2 to 2,048? (1 to 2,048 in the filter bank) */
+    DEMOSAIC_REFUSED_HEIGHT = 2,            /* the height is 2 to 2,048? (1 to 2,048 in the filter bank) */
+    DEMOSAIC_REFUSED_LAYOUT = 3,            /* the layout is 0 to 3? */
+    DEMOSAIC_REFUSED_ROUNDS = 4,            /* the rounds are at most 64? */
+    DEMOSAIC_REFUSED_THRESHOLD = 5,         /* the threshold is at most 4,095? */
+    DEMOSAIC_REFUSED_DISTANCE = 12,         /* the packet's distance back is 2 * width * height + 12? */
+    DEMOSAIC_REFUSED_DISTANCE_OUTSIDE = 13, /* the distance back lies within the store? */
+    DEMOSAIC_REFUSED_GIVEN_LENGTH = 6,      /* what is given has exactly width * height numbers? */
+    DEMOSAIC_REFUSED_FILLED_LENGTH = 7,     /* what is filled (in the rounds, each plane) has exactly width * height? */
+    DEMOSAIC_REFUSED_WORK_LENGTH = 8,       /* the work buffer has at least 8 * width * height numbers? */
+    DEMOSAIC_REFUSED_SAMPLE = 9,            /* the samples of the mosaic, or of the packet, are at most 4,095 each? */
+    DEMOSAIC_REFUSED_PLANE_SAMPLE = 10,     /* the samples of the planes that are given are at most 4,095 each? */
+    DEMOSAIC_REFUSED_BANK_VALUE = 15,       /* the values are in the filter bank's range? */
+    DEMOSAIC_REFUSED_PACKET_ROOM = 14,      /* the buffer is long enough for the packet? */
+    DEMOSAIC_REFUSED_PROGRAM_INPUT = 17     /* the program alone: is its input short enough? No call asks this. */
+};
+
+/* What is wrong, in a few words, for people to read. */
+static inline const char *demosaic_refusal_text(uint32_t number)
+{
+    switch (number) {
+    case DEMOSAIC_ACCEPTED: return "accepted";
+    case DEMOSAIC_REFUSED_TURN: return "turn out of range";
+    case DEMOSAIC_REFUSED_STORE_LENGTH: return "store too short for a packet";
+    case DEMOSAIC_REFUSED_WIDTH: return "width out of range";
+    case DEMOSAIC_REFUSED_HEIGHT: return "height out of range";
+    case DEMOSAIC_REFUSED_LAYOUT: return "layout out of range";
+    case DEMOSAIC_REFUSED_ROUNDS: return "rounds out of range";
+    case DEMOSAIC_REFUSED_THRESHOLD: return "threshold out of range";
+    case DEMOSAIC_REFUSED_DISTANCE: return "distance back does not match width and height";
+    case DEMOSAIC_REFUSED_DISTANCE_OUTSIDE: return "distance back reaches outside the store";
+    case DEMOSAIC_REFUSED_GIVEN_LENGTH: return "a given buffer's length is not width * height";
+    case DEMOSAIC_REFUSED_FILLED_LENGTH: return "a filled buffer's length is not width * height";
+    case DEMOSAIC_REFUSED_WORK_LENGTH: return "work buffer too short";
+    case DEMOSAIC_REFUSED_SAMPLE: return "a sample out of range";
+    case DEMOSAIC_REFUSED_PLANE_SAMPLE: return "a plane's sample out of range";
+    case DEMOSAIC_REFUSED_BANK_VALUE: return "a value out of the filter bank's range";
+    case DEMOSAIC_REFUSED_PACKET_ROOM: return "buffer too short for the packet";
+    case DEMOSAIC_REFUSED_PROGRAM_INPUT: return "input too long for the program";
+    default: return "no number of a refusal";
+    }
+}
+
+/*
+ * ---- Frames
+ */
+
+#define DEMOSAIC_MIN_SIDE 2 /* of width and height; 1 in the filter bank */
+#define DEMOSAIC_MAX_SIDE 2048
+#define DEMOSAIC_MAX_ROUNDS 64
+#define DEMOSAIC_MAX_SAMPLE 4095 /* the threshold's largest too */
+
+/*
+ * A layout: the colours of rows 0 and 1 at columns 0 and 1, which repeat all over the mosaic. Blue has the other
+ * parity than red in row and in column, all else is green.
+ */
+enum demosaic_layout {
+    DEMOSAIC_RGGB = 0, /* red on even rows and even columns */
+    DEMOSAIC_GRBG = 1, /* red on even rows and odd columns */
+    DEMOSAIC_GBRG = 2, /* red on odd rows and even columns */
+    DEMOSAIC_BGGR = 3  /* red on odd rows and odd columns */
+};
+
+/* How many bytes the packet of a frame has, and how many numbers its work buffer has at least. */
+#define DEMOSAIC_PACKET_BYTES(width, height) (2 * (size_t)(width) * (size_t)(height) + 12)
+#define DEMOSAIC_WORK_LEN(width, height) (8 * (size_t)(width) * (size_t)(height))
 
 /*
  * ---- Packets
@@ -68,8 +132,8 @@ uint32_t demosaic_packet_fields(const uint8_t *store, size_t store_len, size_t *
 uint32_t demosaic_packet_samples(const uint8_t *store, size_t store_len, uint16_t *samples, size_t samples_len);
 
 /*
- * Writes a packet into the first bytes of `out`, 2 * width * height + 12 of them, and how many into `written`; the
- * bytes after them stay. Asks 1, 2, 3, 4, 5, 6, 9, 14.
+ * Writes a packet into the first bytes of `out`, and how many they are into `written`; the bytes after them stay. Asks
+ * 1, 2, 3, 4, 5, 6, 9, 14.
  */
 uint32_t demosaic_packet_write(size_t width, size_t height, uint8_t layout, uint8_t rounds, uint16_t threshold,
                                const uint16_t *samples, size_t samples_len, uint8_t *out, size_t out_len,
@@ -91,24 +155,22 @@ uint32_t demosaic_packet_repeats(const uint8_t *a, size_t a_len, const uint8_t *
  */
 
 /*
- * Fills `out` with the turned samples, of a mosaic or of a plane; the layout changes nothing in them. Asks 16, 1, 2,
- * 3, 6, 7.
+ * Fills `out` with the turned samples, of a mosaic or of a plane, and hands back the turned width, height and layout;
+ * the layout changes no sample. Asks 16, 1, 2, 3, 6, 7.
  */
-uint32_t demosaic_turn(uint8_t turn, size_t width, size_t height, uint8_t layout, const uint16_t *samples,
-                       size_t samples_len, uint16_t *out, size_t out_len);
+uint32_t demosaic_turn(uint32_t turn, size_t width, size_t height, uint32_t layout, const uint16_t *samples,
+                       size_t samples_len, uint16_t *out, size_t out_len, size_t *turned_width,
+                       size_t *turned_height, uint32_t *turned_layout);
 
-/* The turned width, height and layout. Asks 16, 1, 2, 3. */
-uint32_t demosaic_turned_shape(uint8_t turn, size_t width, size_t height, uint8_t layout, size_t *turned_width,
-                               size_t *turned_height, uint8_t *turned_layout);
+/* The turned width, height and layout alone, for whoever needs them before there are samples. Asks 16, 1, 2, 3. */
+uint32_t demosaic_turned_shape(uint32_t turn, size_t width, size_t height, uint32_t layout, size_t *turned_width,
+                               size_t *turned_height, uint32_t *turned_layout);
 
 /* The one turn that does what `turn` and then `next` do. Asks 16 of both. */
-uint32_t demosaic_then_another(uint8_t turn, uint8_t next, uint8_t *single);
+uint32_t demosaic_then_another(uint32_t turn, uint32_t next, uint32_t *single);
 
 /*
  * ---- Finishing
- *
- * Red sits on even rows and even columns in layout 0, even rows and odd columns in 1, odd rows and even columns in 2,
- * odd and odd in 3, counted from 0; blue has the other parity in both; all else is green.
  */
 
 /*
@@ -124,7 +186,7 @@ uint32_t demosaic_finish(size_t width, size_t height, uint8_t layout, uint8_t ro
  * The tally: frames finished, frames refused, rounds run. The caller holds the three counts, at first 0, and takes the
  * next of each after every finishing call: an accepted frame (number 0) adds 1 to the first and its rounds to the
  * third, a refused one adds 1 to the second only. Each count stops at 4,294,967,295. `number` is what demosaic_finish
- * answered (or the call that refused the frame before), `rounds` what it was given.
+ * answered, `rounds` what it was given. A frame that another call refused before is no part of the tally.
  */
 uint32_t demosaic_tally_finished(uint32_t before, uint32_t number);
 uint32_t demosaic_tally_refused(uint32_t before, uint32_t number);

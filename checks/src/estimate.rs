@@ -52,7 +52,7 @@ pub fn estimate(
     mosaic: &[u16],
     planes: [&mut [u16]; 3],
 ) -> Result<(), u32> {
-    if let Some(number) = shape_refusal(width, height, layout) {
+    if let Some(number) = shape_refusal(width, height, layout.into()) {
         return Err(number);
     }
     if mosaic.len() != width * height {

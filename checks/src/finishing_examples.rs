@@ -53,7 +53,8 @@ fn turn_all(turns: &[u8], mut fields: Fields, mosaics: &mut [Vec<u16>; 2]) -> (F
     for &turn in turns {
         let Fields { width, height, layout, .. } = fields;
         let given = mosaics[place].clone();
-        if let Ok(shape) = turn_samples(turn, width, height, layout, &given, &mut mosaics[1 - place]) {
+        let second = &mut mosaics[1 - place];
+        if let Ok(shape) = turn_samples(turn.into(), width, height, layout.into(), &given, second) {
             (fields.width, fields.height, fields.layout) = shape;
             place = 1 - place;
         }

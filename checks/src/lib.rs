@@ -13,6 +13,7 @@ pub mod estimate;
 pub mod finishing;
 pub mod finishing_examples;
 pub mod frame_calls;
+pub mod header;
 pub mod low_band;
 pub mod mosaic;
 pub mod mosaics;

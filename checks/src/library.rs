@@ -46,27 +46,30 @@ unsafe extern "C" {
     fn demosaic_packet_repeats(a: *const u8, a_len: usize, b: *const u8, b_len: usize, same: *mut u8) -> u32;
 
     fn demosaic_turn(
-        turn: u8,
+        turn: u32,
         width: usize,
         height: usize,
-        layout: u8,
+        layout: u32,
         samples: *const u16,
         samples_len: usize,
         out: *mut u16,
         out_len: usize,
+        turned_width: *mut usize,
+        turned_height: *mut usize,
+        turned_layout: *mut u32,
     ) -> u32;
 
     fn demosaic_turned_shape(
-        turn: u8,
+        turn: u32,
         width: usize,
         height: usize,
-        layout: u8,
+        layout: u32,
         turned_width: *mut usize,
         turned_height: *mut usize,
-        turned_layout: *mut u8,
+        turned_layout: *mut u32,
     ) -> u32;
 
-    fn demosaic_then_another(turn: u8, next: u8, single: *mut u8) -> u32;
+    fn demosaic_then_another(turn: u32, next: u32, single: *mut u32) -> u32;
 
     safe fn demosaic_bring_back(sum: i32) -> u16;
 
@@ -135,45 +138,50 @@ pub fn packet_repeats(a: &[u8], b: &[u8], same: &mut u8) -> Result<(), u32> {
     answer(unsafe { demosaic_packet_repeats(a.as_ptr(), a.len(), b.as_ptr(), b.len(), same) })
 }
 
-pub fn turn(
-    turn: u8,
-    width: usize,
-    height: usize,
-    layout: u8,
-    samples: &[u16],
-    out: &mut [u16],
-) -> Result<(), u32> {
+/// What both calls that are given a turn and a shape are asked with.
+#[derive(Clone, Copy, Debug)]
+pub struct Shape {
+    pub turn: u32,
+    pub width: usize,
+    pub height: usize,
+    pub layout: u32,
+}
+
+/// Where both hand the turned width, height and layout back.
+pub struct Turned<'a> {
+    pub width: &'a mut usize,
+    pub height: &'a mut usize,
+    pub layout: &'a mut u32,
+}
+
+pub fn turn(shape: Shape, samples: &[u16], out: &mut [u16], turned: Turned) -> Result<(), u32> {
     // as in the fields
     answer(unsafe {
         demosaic_turn(
-            turn,
-            width,
-            height,
-            layout,
+            shape.turn,
+            shape.width,
+            shape.height,
+            shape.layout,
             samples.as_ptr(),
             samples.len(),
             out.as_mut_ptr(),
             out.len(),
+            turned.width,
+            turned.height,
+            turned.layout,
         )
     })
 }
 
-pub fn turned_shape(
-    turn: u8,
-    width: usize,
-    height: usize,
-    layout: u8,
-    turned_width: &mut usize,
-    turned_height: &mut usize,
-    turned_layout: &mut u8,
-) -> Result<(), u32> {
+pub fn turned_shape(shape: Shape, turned: Turned) -> Result<(), u32> {
+    let Shape { turn, width, height, layout } = shape;
     // as in the fields
     answer(unsafe {
-        demosaic_turned_shape(turn, width, height, layout, turned_width, turned_height, turned_layout)
+        demosaic_turned_shape(turn, width, height, layout, turned.width, turned.height, turned.layout)
     })
 }
 
-pub fn then_another(turn: u8, next: u8, single: &mut u8) -> Result<(), u32> {
+pub fn then_another(turn: u32, next: u32, single: &mut u32) -> Result<(), u32> {
     // as in the fields
     answer(unsafe { demosaic_then_another(turn, next, single) })
 }

@@ -50,7 +50,7 @@ impl Mosaic<'_> {
 }
 
 /// Questions 1, 2 and 3.
-pub fn shape_refusal(width: usize, height: usize, layout: u8) -> Option<u32> {
+pub fn shape_refusal(width: usize, height: usize, layout: u32) -> Option<u32> {
     if !(2..=2048).contains(&width) {
         Some(1)
     } else if !(2..=2048).contains(&height) {

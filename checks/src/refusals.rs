@@ -9,6 +9,24 @@ use crate::packet::Fields;
 pub const NO_LENGTH: [usize; 10] =
     [0, 2049, 2050, 4096, 65_536, 65_539, 1 << 32, (1 << 32) + 3, (1 << 63) + 3, usize::MAX];
 
+/// Neither turns nor layouts. Some of them would be both in fewer bits.
+pub const NO_TURN_OR_LAYOUT: [u32; 14] = [
+    8,
+    9,
+    255,
+    256,
+    259,
+    263,
+    65_536,
+    65_539,
+    1 << 24,
+    (1 << 24) + 3,
+    1 << 31,
+    (1 << 31) + 3,
+    u32::MAX - 3,
+    u32::MAX,
+];
+
 /// Lengths that are not w·h.
 pub fn wrong_lengths(width: usize, height: usize) -> Vec<usize> {
     let count = width * height;

@@ -62,50 +62,50 @@ impl Frame {
     }
 }
 
+/// Question 16; a turn that passes fits a byte.
+fn turn_of(number: u32) -> Result<u8, u32> {
+    if number > 7 {
+        Err(16)
+    } else {
+        Ok(number as u8)
+    }
+}
+
 /// Question 16 of both turns; then the one turn that does what the two do, found by trying each on a frame that no turn
 /// leaves as it is.
-pub fn then_another(first: u8, second: u8) -> Result<u8, u32> {
-    if first > 7 || second > 7 {
-        return Err(16);
-    }
+pub fn then_another(first: u32, second: u32) -> Result<u8, u32> {
+    let (first, second) = (turn_of(first)?, turn_of(second)?);
     let frame = Frame { width: 3, height: 2, layout: 0, samples: (0..6).collect() };
     let both = frame.turned(first).turned(second);
     Ok((0..8).find(|&t| frame.turned(t) == both).unwrap())
 }
 
-/// Questions 16, 1, 2 and 3.
-pub fn shape_refusal(turn: u8, width: usize, height: usize, layout: u8) -> Option<u32> {
-    if turn > 7 {
-        Some(16)
-    } else {
-        mosaic::shape_refusal(width, height, layout)
+/// Questions 16, 1, 2 and 3; then the turn and the layout, which fits a byte.
+fn asked(turn: u32, width: usize, height: usize, layout: u32) -> Result<(u8, u8), u32> {
+    let turn = turn_of(turn)?;
+    match mosaic::shape_refusal(width, height, layout) {
+        Some(number) => Err(number),
+        None => Ok((turn, layout as u8)),
     }
 }
 
 /// The turned width, height and layout.
-pub fn turned_shape(turn: u8, width: usize, height: usize, layout: u8) -> Result<(usize, usize, u8), u32> {
-    match shape_refusal(turn, width, height, layout) {
-        Some(number) => Err(number),
-        None => {
-            let samples = vec![0; width * height];
-            let frame = Frame { width, height, layout, samples }.turned(turn);
-            Ok((frame.width, frame.height, frame.layout))
-        }
-    }
+pub fn turned_shape(turn: u32, width: usize, height: usize, layout: u32) -> Result<(usize, usize, u8), u32> {
+    let (turn, layout) = asked(turn, width, height, layout)?;
+    let frame = Frame { width, height, layout, samples: vec![0; width * height] }.turned(turn);
+    Ok((frame.width, frame.height, frame.layout))
 }
 
 /// The turning call: the shape's questions, then 6 of the samples and 7 of the second buffer.
 pub fn turn_samples(
-    turn: u8,
+    turn: u32,
     width: usize,
     height: usize,
-    layout: u8,
+    layout: u32,
     samples: &[u16],
     out: &mut [u16],
 ) -> Result<(usize, usize, u8), u32> {
-    if let Some(number) = shape_refusal(turn, width, height, layout) {
-        return Err(number);
-    }
+    let (turn, layout) = asked(turn, width, height, layout)?;
     if samples.len() != width * height {
         return Err(6);
     }
@@ -118,7 +118,7 @@ pub fn turn_samples(
 }
 
 /// A turning call of demand 3's list: the turn, and how long the second buffer is.
-pub type Turning = (u8, usize);
+pub type Turning = (u32, usize);
 
 /// What stands after a list of turning calls, and the turns of the accepted ones. Each call is given what the last accepted
 /// one before it left; a refused one changes nothing.
@@ -127,10 +127,10 @@ pub fn after_list(frame: &Frame, list: &[Turning]) -> (Frame, Vec<u8>) {
     let mut accepted = Vec::new();
     for &(turn, length) in list {
         let mut second = vec![0; length];
-        let answer = turn_samples(turn, now.width, now.height, now.layout, &now.samples, &mut second);
+        let answer = turn_samples(turn, now.width, now.height, now.layout.into(), &now.samples, &mut second);
         if let Ok((width, height, layout)) = answer {
             now = Frame { width, height, layout, samples: second };
-            accepted.push(turn);
+            accepted.push(turn as u8);
         }
     }
     (now, accepted)
@@ -146,9 +146,23 @@ mod tests {
     }
 
     #[test]
+    fn refused_in_order() {
+        assert_eq!(then_another(8, 0), Err(16));
+        assert_eq!(then_another(0, 256), Err(16));
+        let shapes = [(256, 0, 0, 256, 16), (7, 0, 0, 256, 1), (7, 2, 0, 256, 2), (7, 2, 2, 256, 3)];
+        for (turn, width, height, layout, number) in shapes {
+            assert_eq!(turned_shape(turn, width, height, layout), Err(number));
+            assert_eq!(turn_samples(turn, width, height, layout, &[0; 3], &mut [0; 3]), Err(number));
+        }
+        assert_eq!(turn_samples(7, 2, 2, 3, &[0; 3], &mut [0; 3]), Err(6));
+        assert_eq!(turn_samples(7, 2, 2, 3, &[0; 4], &mut [0; 3]), Err(7));
+        assert_eq!(turn_samples(7, 2, 2, 3, &[0; 4], &mut [0; 4]), Ok((2, 2, 0)));
+    }
+
+    #[test]
     fn refused_turning_calls_change_nothing() {
         let frame = Frame { width: 3, height: 2, layout: 1, samples: (0..6).collect() };
-        let list = [(8, 6), (1, 6), (2, 5), (255, 7), (4, 6), (3, 7), (0, 0)];
+        let list = [(8, 6), (1, 6), (2, 5), (255, 7), (256, 6), (4, 6), (3, 7), (0, 0)];
         assert_eq!(after_list(&frame, &list), (frame.turned(6), vec![1, 4]));
         assert_eq!(after_list(&frame, &[]), (frame.clone(), vec![]));
         assert_eq!(after_list(&frame, &[(1, 4), (9, 6)]), (frame, vec![]));

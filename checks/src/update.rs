@@ -44,7 +44,7 @@ pub fn update(
     green: &mut [u16],
     work: &mut [i32],
 ) -> Result<(), u32> {
-    if let Some(number) = shape_refusal(width, height, layout) {
+    if let Some(number) = shape_refusal(width, height, layout.into()) {
         return Err(number);
     }
     let count = width * height;

@@ -34,7 +34,15 @@ fn compositions(out: &mut String) {
 }
 
 /// A line: what is given, what the turn's operations answer, what the turning call answers, and the second buffer after it.
-fn example(out: &mut String, turn: u8, width: usize, height: usize, layout: u8, samples: &[u16], buffer: &mut [u16]) {
+fn example(
+    out: &mut String,
+    turn: u32,
+    width: usize,
+    height: usize,
+    layout: u32,
+    samples: &[u16],
+    buffer: &mut [u16],
+) {
     let shape = || turns::turned_shape(turn, width, height, layout);
     write!(
         out,
@@ -57,7 +65,7 @@ fn example(out: &mut String, turn: u8, width: usize, height: usize, layout: u8, 
 /// Each question answered no: turn, width, height, layout, how many samples, and the second buffer's length.
 fn refusals(out: &mut String) {
     let most = usize::MAX;
-    let calls: [(u8, usize, usize, u8, usize, usize); 17] = [
+    let calls: [(u32, usize, usize, u32, usize, usize); 17] = [
         // at both ends of their ranges
         (8, 2, 2, 0, 4, 4),
         (0, 0, 2, 0, 4, 4),

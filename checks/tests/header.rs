@@ -1,47 +1,9 @@
 //! The header `include/demosaic.h` declares the functions that the library's source has, no others, with the same types and
-//! names; so do `src/library.rs` and `src/frame_calls.rs`. The header stands by itself, in C and in C++, and the library has
-//! what it declares.
+//! names; so do `src/library.rs` and `src/frame_calls.rs`. The header stands by itself, in every C and C++ that it is for, and
+//! the library has what it declares.
 
-use checks::compiled::{compile, in_repository};
-use std::collections::BTreeMap;
-use std::fs::{read_to_string, write};
-use std::path::Path;
-use std::process::Command;
-
-/// Each function's name, and its prototype in C with one space between words.
-type Prototypes = BTreeMap<String, String>;
-
-fn file(path: &str) -> String {
-    read_to_string(in_repository(path)).unwrap_or_else(|error| panic!("{path}: {error}"))
-}
-
-fn prototype(result: &str, name: &str, parameters: &[String]) -> (String, String) {
-    (name.to_string(), format!("{result} {name}({})", parameters.join(", ")))
-}
-
-/// The header less its comments, the lines of the preprocessor and the braces that C++ needs.
-fn code(header: &str) -> String {
-    let mut code = String::new();
-    for (k, part) in header.split("/*").enumerate() {
-        code.push_str(if k == 0 { part } else { part.split_once("*/").expect("a comment's end").1 });
-    }
-    let lines =
-        code.lines().filter(|line| !line.starts_with('#') && *line != "extern \"C\" {" && *line != "}");
-    lines.collect::<Vec<_>>().join("\n")
-}
-
-/// The prototypes of C, as the header's code has them.
-fn of_c(code: &str) -> Prototypes {
-    let words = |text: &str| text.replace('*', " * ").split_whitespace().collect::<Vec<_>>().join(" ");
-    let declarations = code.split(';').map(str::trim).filter(|declaration| !declaration.is_empty());
-    let prototypes = declarations.map(|declaration| {
-        let (head, parameters) = declaration.split_once('(').expect("a function");
-        let (result, name) = head.rsplit_once(char::is_whitespace).expect("a result and a name");
-        let parameters = parameters.strip_suffix(')').expect("the last parameter");
-        prototype(&words(result), name, &parameters.split(',').map(words).collect::<Vec<_>>())
-    });
-    prototypes.collect()
-}
+use checks::compiled::{compile, Language, C, C_PLUS_PLUS};
+use checks::header::{file, prototype, prototypes, Header, Prototypes};
 
 /// A number's type in C.
 fn number(name: &str) -> &'static str {
@@ -107,7 +69,7 @@ fn difference(found: &Prototypes, due: &Prototypes) -> Option<String> {
 
 #[test]
 fn the_header_declares_what_the_source_has() {
-    let header = of_c(&code(&file("include/demosaic.h")));
+    let header = Header::read().prototypes();
     assert_eq!(difference(&header, &of_the_source()), None);
     // neither list is empty: two of the prototypes in full
     let refusal = "uint32_t demosaic_packet_refusal(const uint8_t * store, size_t store_len)";
@@ -115,10 +77,10 @@ fn the_header_declares_what_the_source_has() {
     assert_eq!(header["demosaic_bring_back"], "uint16_t demosaic_bring_back(int32_t sum)");
 }
 
-/// Every edit of this kind, wherever the header's code has its words, is noticed.
+/// Every edit of this kind, wherever the header's declarations have its words, is noticed.
 #[test]
 fn a_wrong_prototype_is_noticed() {
-    let (right, source) = (code(&file("include/demosaic.h")), of_the_source());
+    let (right, source) = (Header::read().declarations, of_the_source());
     let edits = [
         ("const ", ""),
         ("*", ""),
@@ -128,6 +90,7 @@ fn a_wrong_prototype_is_noticed() {
         ("uint8_t", "uint16_t"),
         ("uint16_t", "int16_t"),
         ("uint32_t", "size_t"),
+        ("uint32_t", "uint8_t"),
         ("int32_t", "int64_t"),
         ("_len", ""),
         ("width, size_t height", "height, size_t width"),
@@ -141,12 +104,12 @@ fn a_wrong_prototype_is_noticed() {
         assert!(places.len() >= 3, "{from:?} occurs {} times only", places.len());
         for place in places {
             let wrong = format!("{}{to}{}", &right[..place], &right[place + from.len()..]);
-            let noticed = difference(&of_c(&wrong), &source);
+            let noticed = difference(&prototypes(&wrong), &source);
             assert!(noticed.is_some(), "{to:?} in place of {from:?} at {place}");
         }
     }
     for declaration in right.split_inclusive(';').filter(|declaration| declaration.contains('(')) {
-        let noticed = difference(&of_c(&right.replace(declaration, "")), &source);
+        let noticed = difference(&prototypes(&right.replace(declaration, "")), &source);
         assert!(noticed.is_some(), "less {declaration}");
     }
 }
@@ -164,34 +127,31 @@ fn declared(path: &str) -> Prototypes {
 fn the_tests_declare_what_the_header_declares() {
     let mut found = declared("checks/src/library.rs");
     found.extend(declared("checks/src/frame_calls.rs"));
-    let mut header = of_c(&code(&file("include/demosaic.h")));
+    let mut header = Header::read().prototypes();
     header.remove("demosaic_packet_refusal").expect("the packet's refusal");
     assert_eq!(difference(&found, &header), None);
 }
 
 /// Compiles and links a program that has the address of every function and takes in the header twice, and nothing before it.
-fn stands_by_itself(compiler: &[&str], extension: &str) {
+fn stands_by_itself(language: &Language) {
     let names: Vec<String> = of_the_source().into_keys().map(|name| format!("    (any){name},\n")).collect();
     let text = format!(
         "#include \"demosaic.h\"\n#include \"demosaic.h\"\n\ntypedef void (*any)(void);\n\
          extern any all[];\nany all[] = {{\n{}}};\n\nint main(void)\n{{\n    return 0;\n}}\n",
         names.concat()
     );
-    let source = Path::new(env!("CARGO_TARGET_TMPDIR")).join(format!("header.{extension}"));
-    write(&source, text).unwrap();
-    compile(compiler, &source, &source.with_extension(format!("{extension}.bin")));
+    let source = language.write(env!("CARGO_TARGET_TMPDIR"), "header", &text);
+    for compiler in language.compilers() {
+        compile(&compiler, &source, &source.with_extension(format!("{}.bin", language.extension)));
+    }
 }
 
 #[test]
 fn in_c() {
-    stands_by_itself(&["cc", "-std=c11"], "c");
+    stands_by_itself(&C);
 }
 
-/// Where there is no C++ compiler, nobody on that machine compiles the header as C++ either.
 #[test]
 fn in_c_plus_plus() {
-    match Command::new("c++").arg("--version").output() {
-        Ok(_) => stands_by_itself(&["c++", "-std=c++11"], "cpp"),
-        Err(error) => eprintln!("the header is not compiled as C++: c++ does not start, {error}"),
-    }
+    stands_by_itself(&C_PLUS_PLUS);
 }

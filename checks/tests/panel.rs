@@ -1,9 +1,10 @@
 //! The example of a panel's program, `examples/panel.c`, prints what the reference computes of its files: refusals, repeats,
-//! turned and finished frames, and the tally.
+//! turned and finished frames, the tally, and what was refused before a finishing call.
 
 use checks::chance::Chance;
-use checks::compiled::{compile, compiled, in_repository};
+use checks::compiled::{compile, compiled, C, C_PLUS_PLUS};
 use checks::finishing::{finished_of, Tally};
+use checks::header::{file, refusal_text};
 use checks::mosaics::kinds;
 use checks::packet::{self, Fields, PRINTED};
 use checks::stores::{damaged, sound, wrong, QUESTIONS};
@@ -19,12 +20,36 @@ const DIRECTORY: &str = env!("CARGO_TARGET_TMPDIR");
 
 static PANEL: LazyLock<PathBuf> = LazyLock::new(|| compiled("examples/panel.c", DIRECTORY));
 
-/// A frame as the panel is to finish it, and the means of its finished red and blue; or the refusal of the turn.
-fn finished(turn: u8, fields: &Fields, samples: &[u16]) -> Result<(Fields, [u64; 2]), u32> {
+/// A call's refusal of what the engine accepts, by the fields that it is told.
+type Refusal = fn(&Fields) -> Result<(), u32>;
+
+/// Refusals beyond the engine's: of the call that reads the samples, and of the finishing call.
+#[derive(Clone, Copy)]
+struct Beyond {
+    samples: Refusal,
+    finish: Refusal,
+}
+
+/// The engine as it is.
+const NONE: Beyond = Beyond { samples: |_| Ok(()), finish: |_| Ok(()) };
+
+/// The call that refuses a frame.
+enum Call {
+    Reading,
+    Turning,
+    Finishing,
+}
+
+/// A frame as the panel is to finish it, and the means of its finished red and blue; or which call refuses it.
+fn finished(beyond: Beyond, turn: u32, store: &[u8]) -> Result<(Fields, [u64; 2]), (Call, u32)> {
+    let (fields, part) = packet::read(store).map_err(|number| (Call::Reading, number))?;
+    (beyond.samples)(&fields).map_err(|number| (Call::Reading, number))?;
+    let samples = packet::samples_of(part);
     let mut mosaic = vec![0; samples.len()];
-    let shape = turn_samples(turn, fields.width, fields.height, fields.layout, samples, &mut mosaic);
-    let (width, height, layout) = shape?;
-    let fields = Fields { width, height, layout, ..*fields };
+    let shape = turn_samples(turn, fields.width, fields.height, fields.layout.into(), &samples, &mut mosaic);
+    let (width, height, layout) = shape.map_err(|number| (Call::Turning, number))?;
+    let fields = Fields { width, height, layout, ..fields };
+    (beyond.finish)(&fields).map_err(|number| (Call::Finishing, number))?;
     let [red, _, blue] = finished_of(&fields, &mosaic);
     let mean =
         |plane: Vec<u16>| plane.iter().map(|&value| u64::from(value)).sum::<u64>() / plane.len() as u64;
@@ -35,32 +60,34 @@ fn finished(turn: u8, fields: &Fields, samples: &[u16]) -> Result<(Fields, [u64;
 type Store = (String, Vec<u8>);
 
 /// What the panel has to print of these stores.
-fn due(turn: u8, stores: &[Store]) -> String {
+fn due(beyond: Beyond, turn: u32, stores: &[Store]) -> String {
     let mut out = String::new();
-    let mut tally = Tally::default();
+    let (mut tally, mut not_read, mut not_turned) = (Tally::default(), 0, 0);
     let mut last: Option<&[u8]> = None;
     for (name, store) in stores {
-        let frame = match packet::read(store) {
-            Ok(_) if last.is_some_and(|last| packet::repeats(store, last).unwrap()) => {
-                writeln!(out, "{name}: repeats the one before").unwrap();
-                continue;
-            }
-            Ok((fields, part)) => finished(turn, &fields, &packet::samples_of(part)),
-            Err(number) => Err(number),
-        };
-        match frame {
+        if last.is_some_and(|last| packet::repeats(store, last) == Ok(true)) {
+            writeln!(out, "{name}: repeats the one before").unwrap();
+            continue;
+        }
+        match finished(beyond, turn, store) {
             Ok((Fields { width, height, rounds, .. }, [red, blue])) => {
                 writeln!(out, "{name}: {width} by {height}, red {red}, blue {blue}").unwrap();
                 tally = tally.next(0, rounds);
                 last = Some(store);
             }
-            Err(number) => {
-                writeln!(out, "{name}: refused {number}").unwrap();
-                tally = tally.next(number, 0);
+            Err((call, number)) => {
+                writeln!(out, "{name}: refused {number}, {}", refusal_text(number)).unwrap();
+                match call {
+                    Call::Reading => not_read += 1,
+                    Call::Turning => not_turned += 1,
+                    Call::Finishing => tally = tally.next(number, 0),
+                }
             }
         }
     }
-    writeln!(out, "finished {}, refused {}, rounds {}", tally.finished, tally.refused, tally.rounds).unwrap();
+    let Tally { finished, refused, rounds } = tally;
+    write!(out, "finished {finished}, refused {refused}, rounds {rounds}; ").unwrap();
+    writeln!(out, "not read {not_read}, not turned {not_turned}").unwrap();
     out
 }
 
@@ -84,7 +111,13 @@ fn run(mut command: Command, directory: &Path, arguments: &[&str]) -> Output {
 }
 
 /// Has the program read these stores, compares what it leaves with the reference, and hands back its lines.
-fn compared_with(command: Command, test: &str, turn: u8, stores: Vec<Vec<u8>>) -> Vec<String> {
+fn compared_with(
+    command: Command,
+    beyond: Beyond,
+    test: &str,
+    turn: u32,
+    stores: Vec<Vec<u8>>,
+) -> Vec<String> {
     let (directory, stores) = directory(test, stores);
     let number = turn.to_string();
     let arguments: Vec<&str> =
@@ -92,13 +125,13 @@ fn compared_with(command: Command, test: &str, turn: u8, stores: Vec<Vec<u8>>) -
     let output = run(command, &directory, &arguments);
     let (text, what) = (String::from_utf8_lossy(&output.stdout), format!("{test}, turn {turn}"));
     assert_eq!(String::from_utf8_lossy(&output.stderr), "", "{what}");
-    assert_same(&text, &due(turn, &stores), &what);
+    assert_same(&text, &due(beyond, turn, &stores), &what);
     assert_eq!(output.status.code(), Some(0), "{what}");
     text.lines().map(str::to_string).collect()
 }
 
-fn compared(test: &str, turn: u8, stores: Vec<Vec<u8>>) -> Vec<String> {
-    compared_with(panel(), test, turn, stores)
+fn compared(test: &str, turn: u32, stores: Vec<Vec<u8>>) -> Vec<String> {
+    compared_with(panel(), NONE, test, turn, stores)
 }
 
 /// A frame of a kind by chance, with few rounds.
@@ -121,7 +154,7 @@ fn packets(chance: &mut Chance) -> Vec<Vec<u8>> {
 #[test]
 fn every_turn() {
     let chance = &mut Chance(0x9e37_79b9_7f4a_7c15);
-    for turn in (0..12).chain([16, 127, 128, 254, 255]) {
+    for turn in (0..12).chain([16, 128, 255, 256, 263, 65_539, 1 << 31, u32::MAX]) {
         let mut stores = packets(chance);
         stores.push(chance.bytes(11));
         for question in QUESTIONS {
@@ -129,8 +162,12 @@ fn every_turn() {
             stores.push(wrong(chance, &fields, &[question]));
         }
         let last = compared("every_turn", turn, stores).pop().unwrap();
-        assert_eq!(last.starts_with("finished 10, refused 9, "), turn < 8, "turn {turn}: {last}");
-        assert_eq!(last == "finished 0, refused 19, rounds 0", turn >= 8, "turn {turn}: {last}");
+        if turn < 8 {
+            assert!(last.starts_with("finished 10, refused 0, rounds "), "turn {turn}: {last}");
+            assert!(last.ends_with("; not read 9, not turned 0"), "turn {turn}: {last}");
+        } else {
+            assert_eq!(last, "finished 0, refused 0, rounds 0; not read 9, not turned 10", "turn {turn}");
+        }
     }
 }
 
@@ -208,7 +245,7 @@ fn a_mirrored_head() {
                 let found = after_name(&compared("a_mirrored_head", turn, vec![packet.clone()])[0]);
                 let colours = |line: &str| line.split_once(", ").unwrap().1.to_string();
                 assert_eq!(colours(&found), colours(&line), "head {head}, turn {turn}");
-                if upright.turned(head).turned(turn) == upright {
+                if upright.turned(head).turned(turn as u8) == upright {
                     assert_eq!(found, line, "head {head}, turn {turn}");
                 }
             }
@@ -230,7 +267,8 @@ fn files_of_every_length() {
     let (fields, samples) = frame(chance, 301, 200);
     stores.push(packet::bytes(&fields, &samples));
     compared("files_of_every_length", 5, stores);
-    assert_eq!(compared("files_of_every_length", 0, vec![]), ["finished 0, refused 0, rounds 0"]);
+    let nothing = "finished 0, refused 0, rounds 0; not read 0, not turned 0";
+    assert_eq!(compared("files_of_every_length", 0, vec![]), [nothing]);
 }
 
 /// More files than may be open at once: none stays open.
@@ -238,7 +276,7 @@ fn files_of_every_length() {
 fn many_files() {
     let mut limited = Command::new("sh");
     limited.args(["-c", "ulimit -n 16 && exec \"$0\" \"$@\""]).arg(&*PANEL);
-    let lines = compared_with(limited, "many_files", 3, vec![PRINTED.to_vec(); 100]);
+    let lines = compared_with(limited, NONE, "many_files", 3, vec![PRINTED.to_vec(); 100]);
     assert_eq!(lines.len(), 101);
 }
 
@@ -247,7 +285,9 @@ fn many_files() {
 fn what_it_cannot_do() {
     let (directory, _) = directory("what_it_cannot_do", vec![PRINTED.to_vec()]);
     fs::create_dir_all(directory.join("directory")).unwrap();
-    for turn in ["", "x", "-1", "256", "1x", "x1", "1.0", "0x1", "1 2", "99999999999999999999", "file 1"] {
+    let no_turns = ["", "x", "-1", "+1", "1x", "x1", "1.0", "0x1", "1 2", " 1", "file 1"];
+    let too_large = ["4294967296", "4294967299", "18446744073709551616", "18446744073709551619"];
+    for turn in no_turns.into_iter().chain(too_large) {
         let output = run(panel(), &directory, &[turn, "file 1"]);
         assert_eq!((output.status.code(), &output.stdout[..]), (Some(2), &[][..]), "turn {turn:?}");
         assert_ne!(output.stderr, [], "turn {turn:?}");
@@ -269,17 +309,120 @@ fn what_it_cannot_do() {
     }
 }
 
-/// With the compiler's own checks of addresses, leaks and undefined behaviour in the program around the calls.
+/// At every standard of C and C++ that the header is for, no compiler that is found warns, and the program is the same.
+#[test]
+fn at_every_standard() {
+    let chance = &mut Chance(0x9fb2_1c65_1e98_df25);
+    let text = file("examples/panel.c");
+    for language in [C, C_PLUS_PLUS] {
+        let source = language.write(DIRECTORY, "panel_at_every_standard", &text);
+        let program = source.with_extension(format!("{}.bin", language.extension));
+        for [compiler, standard] in language.compilers() {
+            compile(&[compiler, standard, "-O2"], &source, &program);
+            let [sound, refused] = [chance.small_packet(), chance.bytes(20)];
+            let stores = vec![sound.clone(), sound, refused];
+            compared_with(Command::new(&program), NONE, "at_every_standard", 6, stores);
+        }
+    }
+}
+
+/// The program, compiled for a test with this before it, and with these words for the compiler.
+fn compiled_behind(test: &str, before: &str, words: &[&str]) -> PathBuf {
+    let source =
+        C.write(DIRECTORY, &format!("panel_{test}"), &format!("{before}{}", file("examples/panel.c")));
+    let program = source.with_extension("bin");
+    compile(&[&["cc", "-std=c11"], words].concat(), &source, &program);
+    program
+}
+
+/// Calls that refuse what the engine accepts: reading 35 samples, and finishing an odd height.
+const BEYOND: Beyond = Beyond {
+    samples: |fields| if fields.width * fields.height == 35 { Err(7) } else { Ok(()) },
+    finish: |fields| if fields.height % 2 == 1 { Err(8) } else { Ok(()) },
+};
+
+/// The same before the program in C. A macro does not expand its own name: else, these make the engine's calls.
+const BEYOND_IN_C: &str = r#"
+#include "demosaic.h"
+
+#define demosaic_packet_samples(store, store_len, samples, samples_len) \
+    ((samples_len) == 35 ? UINT32_C(7) : demosaic_packet_samples(store, store_len, samples, samples_len))
+
+#define demosaic_finish(width, height, ...) \
+    ((height) % 2 == 1 ? UINT32_C(8) : demosaic_finish(width, height, __VA_ARGS__))
+
+"#;
+
+/// A frame is counted by the call that refuses it. The tally counts what the finishing call refuses, though the engine's
+/// refuses no frame of a packet that was read and turned.
+#[test]
+fn whoever_refuses() {
+    let chance = &mut Chance(0x1656_67b1_9e37_79f9);
+    let program = compiled_behind("whoever_refuses", BEYOND_IN_C, &["-O2"]);
+    for turn in 0..9 {
+        let mut stores = packets(chance);
+        for (width, height) in [(5, 7), (7, 5), (4, 3), (3, 4), (6, 6)] {
+            let (fields, samples) = frame(chance, width, height);
+            // twice, which is a repeat where the first one is finished
+            stores.extend([(); 2].map(|_| packet::bytes(&fields, &samples)));
+        }
+        stores.push(chance.bytes(30));
+        let command = Command::new(&program);
+        let last = compared_with(command, BEYOND, "whoever_refuses", turn, stores).pop().unwrap();
+        assert_eq!(last.contains(" refused 0,"), turn == 8, "turn {turn}: {last}");
+        assert!(last.contains("not read 5,"), "turn {turn}: {last}");
+    }
+}
+
+/// The compiler's own checks of addresses, leaks and undefined behaviour.
+const SANITIZERS: [&str; 3] = ["-g", "-fsanitize=address,undefined", "-fno-sanitize-recover=all"];
+
+/// Before the program in C: no more blocks of memory than the environment says.
+const FEW_BLOCKS_IN_C: &str = r#"
+#include <inttypes.h>
+#include <stdio.h>
+#include <stdlib.h>
+#include <string.h>
+
+static int taken;
+
+#define malloc(size) (taken++ < atoi(getenv("BLOCKS")) ? malloc(size) : NULL)
+#define realloc(block, size) (taken++ < atoi(getenv("BLOCKS")) ? realloc(block, size) : NULL)
+
+"#;
+
+/// A file takes seven blocks: its store, two mosaics, three planes and the work. Wherever they end, the program says so and
+/// leaves nothing behind.
+#[test]
+fn without_memory() {
+    let program = compiled_behind("without_memory", FEW_BLOCKS_IN_C, &SANITIZERS);
+    let (directory, _) = directory("without_memory", vec![PRINTED.to_vec(), [&[1], &PRINTED[1..]].concat()]);
+    for blocks in 0..=14 {
+        let mut command = Command::new(&program);
+        command.env("BLOCKS", blocks.to_string());
+        let output = run(command, &directory, &["0", "file 1", "file 2"]);
+        let [out, told] = [&output.stdout, &output.stderr].map(|text| String::from_utf8_lossy(text));
+        let due = match blocks {
+            0..7 => "panel: file 1: no memory\n",
+            7..14 => "panel: file 2: no memory\n",
+            _ => "",
+        };
+        assert_eq!(told, due, "{blocks} blocks");
+        assert_eq!(output.status.code(), Some(i32::from(blocks < 14)), "{blocks} blocks");
+        assert_eq!(out.lines().count(), [0, 1, 3][blocks / 7], "{blocks} blocks: {out}");
+    }
+}
+
+/// With the compiler's own checks in the program around the calls.
 #[test]
 fn under_the_sanitizers() {
     let chance = &mut Chance(0xda94_2042_e4dd_58b5);
-    let program = Path::new(DIRECTORY).join("panel_under_the_sanitizers.bin");
-    let compiler = ["cc", "-g", "-std=c11", "-fsanitize=address,undefined", "-fno-sanitize-recover=all"];
-    compile(&compiler, &in_repository("examples/panel.c"), &program);
+    let program = compiled_behind("under_the_sanitizers", "", &SANITIZERS);
     for turn in [0, 6, 8] {
         let packets = packets(chance);
         let refused = packets.iter().map(|packet| packet[packet.len() - 13..].to_vec());
         let twice = packets.iter().flat_map(|packet| [packet.clone(), packet.clone()]);
-        compared_with(Command::new(&program), "under_the_sanitizers", turn, twice.chain(refused).collect());
+        let stores = twice.chain(refused).collect();
+        compared_with(Command::new(&program), NONE, "under_the_sanitizers", turn, stores);
     }
 }

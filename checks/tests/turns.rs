@@ -1,47 +1,101 @@
-//! The C calls `demosaic_turn`, `demosaic_turned_shape` and `demosaic_then_another` answer what the reference answers, leave
-//! in every buffer, and beside it, what the reference leaves, and leave the numbers behind pointers where they refuse.
+//! The C calls `demosaic_turn`, `demosaic_turned_shape` and `demosaic_then_another` answer and hand back what the reference
+//! does, leave in every buffer, and beside it, what the reference leaves, and leave the numbers behind pointers where they
+//! refuse.
 
 use checks::buffers::{assert_same, Buffer};
 use checks::chance::Chance;
 use checks::mosaics::longer_lengths;
 use checks::refusals::{
-    answered, refusals, wrong_lengths, Counts, FrameCall, LARGEST, NO_LENGTH, SHAPES, TRIES_IN_THE_LARGEST,
+    answered, refusals, sets, wrong_lengths, Counts, FrameCall, LARGEST, NO_LENGTH, NO_TURN_OR_LAYOUT,
+    SHAPES, TRIES_IN_THE_LARGEST,
 };
 use checks::turns::{after_list, then_another, turn_samples, turned_shape, Frame};
+use library::{Shape, Turned};
 
 #[path = "../src/library.rs"]
 mod library;
 
-/// What the turning call is asked with: the turn, the frame and the length of the second buffer.
+/// The three numbers that the turning call and the call of the turned shape hand back, with the places beside them.
+struct Handed {
+    width: Buffer<usize>,
+    height: Buffer<usize>,
+    layout: Buffer<u32>,
+}
+
+impl Handed {
+    fn lent() -> Handed {
+        Handed { width: Buffer::lent(1), height: Buffer::lent(1), layout: Buffer::lent(1) }
+    }
+
+    fn turned(&mut self) -> Turned<'_> {
+        Turned {
+            width: self.width.number_mut(),
+            height: self.height.number_mut(),
+            layout: self.layout.number_mut(),
+        }
+    }
+
+    /// They hold what is due; where the call is refused, what they held before.
+    fn assert_due(&self, due: Result<(usize, usize, u8), u32>, what: &str) {
+        match due {
+            Ok((width, height, layout)) => {
+                self.width.assert_holds(&[width], &format!("{what}: width"));
+                self.height.assert_holds(&[height], &format!("{what}: height"));
+                self.layout.assert_holds(&[layout.into()], &format!("{what}: layout"));
+            }
+            Err(_) => {
+                self.width.assert_untouched(&format!("{what}: width, refused"));
+                self.height.assert_untouched(&format!("{what}: height, refused"));
+                self.layout.assert_untouched(&format!("{what}: layout, refused"));
+            }
+        }
+    }
+}
+
+/// A call that is given a turn, a width, a height and a layout.
+trait OfShape: FrameCall {
+    fn shape_mut(&mut self) -> &mut Shape;
+}
+
+/// What the turning call is asked with: the shape, the samples and the length of the second buffer.
 #[derive(Clone)]
 struct Turning {
-    turn: u8,
-    frame: Frame,
+    shape: Shape,
+    samples: Vec<u16>,
     out: usize,
 }
 
 impl Turning {
     /// With a second buffer as long as it has to be.
-    fn of(turn: u8, frame: &Frame) -> Turning {
-        Turning { turn, frame: frame.clone(), out: frame.samples.len() }
+    fn of(turn: u32, frame: &Frame) -> Turning {
+        Turning { shape: Shape::of(turn, frame), samples: frame.samples.clone(), out: frame.samples.len() }
     }
 
-    /// Asks the library and the reference alike, compares the answers and the buffers, and hands back the library's number
-    /// and second buffer.
-    fn compared(&self, kind: &str) -> (u32, Vec<u16>) {
-        let Frame { width, height, layout, ref samples } = self.frame;
-        let what = format!("turn {} of {width} by {height}, layout {layout}, {kind}", self.turn);
-        let given = Buffer::given(samples);
+    /// Asks the library and the reference alike, compares the answers, the buffers and the three numbers, and hands back
+    /// the library's turned frame.
+    fn compared(&self, kind: &str) -> Result<Frame, u32> {
+        let Shape { turn, width, height, layout } = self.shape;
+        let what = format!("turning of {:?}, {kind}", self.shape);
+        let given = Buffer::given(&self.samples);
         let [mut out, mut due] = [(); 2].map(|_| Buffer::<u16>::lent(self.out));
-        let answer = library::turn(self.turn, width, height, layout, given.inside(), out.inside_mut());
-        let due_answer = turn_samples(self.turn, width, height, layout, samples, due.inside_mut());
+        let mut handed = Handed::lent();
+        let answer = library::turn(self.shape, given.inside(), out.inside_mut(), handed.turned());
+        let due_answer = turn_samples(turn, width, height, layout, &self.samples, due.inside_mut());
         assert_eq!(answer, due_answer.map(|_| ()), "{what}");
-        given.assert_holds(samples, &format!("{what}: samples"));
+        given.assert_holds(&self.samples, &format!("{what}: samples"));
         out.assert_holds(due.inside(), &format!("{what}: second buffer"));
+        handed.assert_due(due_answer, &what);
         if answer.is_err() {
             out.assert_untouched(&format!("{what}: second buffer, refused"));
         }
-        (answer.err().unwrap_or(0), out.inside().to_vec())
+        let (width, height, layout) = due_answer?;
+        Ok(Frame { width, height, layout, samples: out.inside().to_vec() })
+    }
+}
+
+impl OfShape for Turning {
+    fn shape_mut(&mut self) -> &mut Shape {
+        &mut self.shape
     }
 }
 
@@ -50,7 +104,7 @@ impl FrameCall for Turning {
     const QUESTIONS: &'static [u32] = &[16, 1, 2, 3, 6, 7];
 
     fn sound(chance: &mut Chance, width: usize, height: usize) -> Turning {
-        let turn = chance.between(0, 7) as u8;
+        let turn = chance.between(0, 7) as u32;
         Turning::of(turn, &random(chance, width, height))
     }
 
@@ -61,74 +115,60 @@ impl FrameCall for Turning {
         for question in questions {
             let length = chance.one_of(&[count - 1, count + 1, 100]);
             match question {
-                16 => ask.turn = chance.between(8, 255) as u8,
-                1 => ask.frame.width = chance.one_of(&NO_LENGTH),
-                2 => ask.frame.height = chance.one_of(&NO_LENGTH),
-                3 => ask.frame.layout = chance.between(4, 255) as u8,
-                6 => ask.frame.samples = chance.any_samples(length),
-                _ => ask.out = length,
+                6 => ask.samples = chance.any_samples(length),
+                7 => ask.out = length,
+                of_the_shape => ask.shape.answer_no(chance, *of_the_shape),
             }
         }
         ask
     }
 
     fn told(self, width: usize, height: usize, layout: u8) -> Turning {
-        Turning { frame: Frame { width, height, layout, ..self.frame }, ..self }
+        Turning { shape: self.shape.told(width, height, layout), ..self }
     }
 
     fn layout(&self) -> u8 {
-        self.frame.layout
+        self.shape.layout()
     }
 
     fn number(&self, kind: &str) -> u32 {
-        self.compared(kind).0
+        self.compared(kind).err().unwrap_or(0)
     }
 }
 
-/// What the call of the turned shape is asked with.
-#[derive(Clone, Copy, Debug)]
-struct Shape {
-    turn: u8,
-    width: usize,
-    height: usize,
-    layout: u8,
-}
-
 impl Shape {
-    fn of(turn: u8, frame: &Frame) -> Shape {
-        Shape { turn, width: frame.width, height: frame.height, layout: frame.layout }
+    fn of(turn: u32, frame: &Frame) -> Shape {
+        Shape { turn, width: frame.width, height: frame.height, layout: frame.layout.into() }
+    }
+
+    /// Answers one of questions 16, 1, 2 and 3 no.
+    fn answer_no(&mut self, chance: &mut Chance, question: u32) {
+        let (any, none) = (chance.between(8, u32::MAX.into()) as u32, chance.one_of(&NO_TURN_OR_LAYOUT));
+        match question {
+            16 => self.turn = chance.one_of(&[any, any % 248 + 8, none]),
+            1 => self.width = chance.one_of(&NO_LENGTH),
+            2 => self.height = chance.one_of(&NO_LENGTH),
+            3 => self.layout = chance.one_of(&[any, any % 252 + 4, none]),
+            _ => panic!("a shape has no question {question}"),
+        }
     }
 
     /// Asks the library and the reference alike, compares the answers, the three numbers and the places beside them, and
     /// hands back the library's answer.
     fn compared(&self, kind: &str) -> Result<(usize, usize, u8), u32> {
-        let what = format!("{self:?}, {kind}");
-        let [mut width, mut height] = [(); 2].map(|_| Buffer::lent(1));
-        let mut layout = Buffer::lent(1);
-        let answer = library::turned_shape(
-            self.turn,
-            self.width,
-            self.height,
-            self.layout,
-            width.number_mut(),
-            height.number_mut(),
-            layout.number_mut(),
-        );
+        let what = format!("turned shape of {self:?}, {kind}");
+        let mut handed = Handed::lent();
+        let answer = library::turned_shape(*self, handed.turned());
         let due = turned_shape(self.turn, self.width, self.height, self.layout);
         assert_eq!(answer, due.map(|_| ()), "{what}");
-        match due {
-            Ok((due_width, due_height, due_layout)) => {
-                width.assert_holds(&[due_width], &format!("{what}: width"));
-                height.assert_holds(&[due_height], &format!("{what}: height"));
-                layout.assert_holds(&[due_layout], &format!("{what}: layout"));
-            }
-            Err(_) => {
-                width.assert_untouched(&format!("{what}: width, refused"));
-                height.assert_untouched(&format!("{what}: height, refused"));
-                layout.assert_untouched(&format!("{what}: layout, refused"));
-            }
-        }
-        answer.map(|()| (*width.number_mut(), *height.number_mut(), *layout.number_mut()))
+        handed.assert_due(due, &what);
+        due
+    }
+}
+
+impl OfShape for Shape {
+    fn shape_mut(&mut self) -> &mut Shape {
+        self
     }
 }
 
@@ -137,30 +177,23 @@ impl FrameCall for Shape {
     const QUESTIONS: &'static [u32] = &[16, 1, 2, 3];
 
     fn sound(chance: &mut Chance, width: usize, height: usize) -> Shape {
-        let (turn, layout) = (chance.between(0, 7) as u8, chance.between(0, 3) as u8);
+        let (turn, layout) = (chance.between(0, 7) as u32, chance.between(0, 3) as u32);
         Shape { turn, width, height, layout }
     }
 
     fn wrong(chance: &mut Chance, questions: &[u32]) -> Shape {
         let (width, height) = (chance.between(2, 9) as usize, chance.between(2, 9) as usize);
         let mut ask = Shape::sound(chance, width, height);
-        for question in questions {
-            match question {
-                16 => ask.turn = chance.between(8, 255) as u8,
-                1 => ask.width = chance.one_of(&NO_LENGTH),
-                2 => ask.height = chance.one_of(&NO_LENGTH),
-                _ => ask.layout = chance.between(4, 255) as u8,
-            }
-        }
+        questions.iter().for_each(|question| ask.answer_no(chance, *question));
         ask
     }
 
     fn told(self, width: usize, height: usize, layout: u8) -> Shape {
-        Shape { width, height, layout, ..self }
+        Shape { width, height, layout: layout.into(), ..self }
     }
 
     fn layout(&self) -> u8 {
-        self.layout
+        self.layout as u8
     }
 
     fn number(&self, kind: &str) -> u32 {
@@ -174,30 +207,40 @@ fn random(chance: &mut Chance, width: usize, height: usize) -> Frame {
     Frame { width, height, layout, samples: chance.any_samples(width * height) }
 }
 
-/// The frame turned by the library, which is the reference's turned frame.
-fn turned(turn: u8, frame: &Frame, kind: &str) -> Frame {
-    let (number, samples) = Turning::of(turn, frame).compared(kind);
-    assert_eq!(number, 0, "turn {turn}, {kind}");
-    let (width, height, layout) = Shape::of(turn, frame).compared(kind).unwrap();
-    Frame { width, height, layout, samples }
+/// The frame turned by the library, which is the reference's turned frame. Both calls hand back its shape.
+fn turned(turn: u32, frame: &Frame, kind: &str) -> Frame {
+    let turned = Turning::of(turn, frame).compared(kind).unwrap();
+    let shape = Shape::of(turn, frame).compared(kind);
+    assert_eq!(shape, Ok((turned.width, turned.height, turned.layout)), "turn {turn}, {kind}");
+    turned
 }
 
 /// The library's one turn for two, which is the reference's.
-fn compared_then_another(turn: u8, next: u8) -> Result<u8, u32> {
+fn compared_then_another(turn: u32, next: u32) -> Result<u32, u32> {
     let what = format!("turn {turn}, then {next}");
     let mut single = Buffer::lent(1);
     let answer = library::then_another(turn, next, single.number_mut());
     let due = then_another(turn, next);
     assert_eq!(answer, due.map(|_| ()), "{what}");
     match due {
-        Ok(due) => single.assert_holds(&[due], &what),
+        Ok(due) => single.assert_holds(&[due.into()], &what),
         Err(_) => single.assert_untouched(&format!("{what}, refused")),
     }
     answer.map(|()| *single.number_mut())
 }
 
+/// All turns and all layouts, and many numbers that are neither: those of eight bits, and of up to 32.
+fn any_number() -> impl Iterator<Item = u32> {
+    (0..=263).chain(NO_TURN_OR_LAYOUT)
+}
+
+/// All pairs of these.
+fn any_two() -> impl Iterator<Item = (u32, u32)> {
+    any_number().flat_map(|first| any_number().map(move |second| (first, second)))
+}
+
 /// The turn that turns back, in the header's words.
-fn back(turn: u8) -> u8 {
+fn back(turn: u32) -> u32 {
     match turn {
         5 => 6,
         6 => 5,
@@ -269,7 +312,7 @@ fn every_turn_with_every_layout() {
     let chance = &mut Chance(0xfedc_ba98_7654_3210);
     for (width, height) in [(2, 2), (3, 2), (4, 5)] {
         let frame = random(chance, width, height);
-        for (turn, layout) in (0..=255).flat_map(|turn| (0..=255).map(move |layout| (turn, layout))) {
+        for (turn, layout) in any_two() {
             let due = if turn > 7 {
                 16
             } else if layout > 3 {
@@ -277,18 +320,17 @@ fn every_turn_with_every_layout() {
             } else {
                 0
             };
-            let ask = Turning::of(turn, &frame).told(width, height, layout);
-            assert_eq!(ask.number("every turn and layout"), due, "turn {turn}, layout {layout}");
             let shape = Shape { turn, width, height, layout };
             assert_eq!(shape.number("every turn and layout"), due, "{shape:?}");
+            let ask = Turning { shape, ..Turning::of(turn, &frame) };
+            assert_eq!(ask.number("every turn and layout"), due, "{shape:?}");
         }
     }
 }
 
-/// Every turn of 0 to 255, then every other.
 #[test]
 fn every_turn_then_every_other() {
-    for (turn, next) in (0..=255).flat_map(|turn| (0..=255).map(move |next| (turn, next))) {
+    for (turn, next) in any_two() {
         let found = compared_then_another(turn, next);
         assert_eq!(found.is_ok(), turn < 8 && next < 8, "turn {turn}, then {next}");
     }
@@ -336,15 +378,14 @@ fn lists_of_turning_calls() {
         let mut now = frame.clone();
         let mut list = Vec::new();
         for _ in 0..8 {
-            let any = chance.between(0, 255) as u8;
+            let any = chance.between(0, u32::MAX.into()) as u32;
             let turn = chance.one_of(&[any, any % 8, any % 8, any % 8]);
             let wrong = chance.one_of(&wrong_lengths(width, height));
             let out = chance.one_of(&[wrong, width * height, width * height, width * height]);
             list.push((turn, out));
             let ask = Turning { out, ..Turning::of(turn, &now) };
-            if let (0, samples) = ask.compared("of a list") {
-                let (width, height, layout) = Shape::of(turn, &now).compared("of a list").unwrap();
-                now = Frame { width, height, layout, samples };
+            if let Ok(turned) = ask.compared("of a list") {
+                now = turned;
             }
         }
         assert_eq!(now, after_list(&frame, &list).0, "{width} by {height}, {list:?}");
@@ -352,11 +393,32 @@ fn lists_of_turning_calls() {
 }
 
 /// Question 16 alone, of every turn.
-fn turns_refused<C: FrameCall>(chance: &mut Chance, counts: &mut Counts, with_turn: impl Fn(C, u8) -> C) {
+fn turns_refused<C: OfShape>(chance: &mut Chance, counts: &mut Counts) {
     for (width, height) in SHAPES {
-        for turn in 0..=255 {
-            let ask = with_turn(C::sound(chance, width, height), turn);
+        for turn in any_number() {
+            let mut ask = C::sound(chance, width, height);
+            ask.shape_mut().turn = turn;
             answered(&ask, if turn < 8 { 0 } else { 16 }, "every turn", counts);
+        }
+    }
+}
+
+/// Every turn and layout that is none, alone and with every set of the other questions answered no: neither is asked too
+/// early or too late, however wide it is.
+fn none_in_its_place<C: OfShape>(chance: &mut Chance, counts: &mut Counts) {
+    for questions in sets(C::QUESTIONS) {
+        let kind = format!("{questions:?} answered no");
+        let nones = NO_TURN_OR_LAYOUT;
+        for (turn, layout) in nones.into_iter().flat_map(|turn| nones.map(|layout| (turn, layout))) {
+            let mut ask = C::wrong(chance, &questions);
+            let shape = ask.shape_mut();
+            if questions.contains(&16) {
+                shape.turn = turn;
+            }
+            if questions.contains(&3) {
+                shape.layout = layout;
+            }
+            answered(&ask, questions.first().copied().unwrap_or(0), &kind, counts);
         }
     }
 }
@@ -364,12 +426,12 @@ fn turns_refused<C: FrameCall>(chance: &mut Chance, counts: &mut Counts, with_tu
 #[test]
 fn refused_turning_calls() {
     refusals::<Turning>(|chance, counts| {
-        turns_refused(chance, counts, |ask, turn| Turning { turn, ..ask });
+        turns_refused::<Turning>(chance, counts);
+        none_in_its_place::<Turning>(chance, counts);
         for (width, height) in SHAPES {
             let sound = Turning::sound(chance, width, height);
             for length in wrong_lengths(width, height) {
-                let frame = Frame { samples: chance.any_samples(length), ..sound.frame.clone() };
-                let ask = Turning { frame, ..sound };
+                let ask = Turning { samples: chance.any_samples(length), ..sound };
                 answered(&ask, 6, "the samples' length", counts);
                 answered(&Turning { out: length, ..ask }, 6, "both lengths", counts);
                 answered(&Turning { out: length, ..sound.clone() }, 7, "the second buffer's length", counts);
@@ -380,5 +442,8 @@ fn refused_turning_calls() {
 
 #[test]
 fn refused_shapes() {
-    refusals::<Shape>(|chance, counts| turns_refused(chance, counts, |ask, turn| Shape { turn, ..ask }));
+    refusals::<Shape>(|chance, counts| {
+        turns_refused::<Shape>(chance, counts);
+        none_in_its_place::<Shape>(chance, counts);
+    });
 }
