@@ -177,14 +177,14 @@ module _ (limit : ℤ) (sign : T (nonNeg limit)) (w h r : ℕ) (some : 1 ≤ w) 
     outer-small t s g g' line at k =
         le-trans (outer-part-range limit sign w 524280 some t (from-place 1 line) (λ i b. subst (λ (z : ℤ). natAbs z ≤ 524280) (sym (at i b)) (line-range s g' i b)) k) (omega (arith, mul-le-mul-right 524280 g))
 
-    pub parts-run : (l : List ℤ) {parts : List ℤ} → 2 + w ≤ length l → parts ≡ overwrite l 2 w (outer-part high-split limit w (from-place 1 low)) → Run 67108864 parts 2 w
+    parts-run : (l : List ℤ) {parts : List ℤ} → 2 + w ≤ length l → parts ≡ overwrite l 2 w (outer-part high-split limit w (from-place 1 low)) → Run 67108864 parts 2 w
     parts-run l room p = laid-run 67108864 l 2 w _ p room (λ k i. le-trans (outer-small high-split low-split (four .1) (four .0) low e k) (omega arith))
 
-    pub minus-run : (l : List ℤ) {minus : List ℤ} → 2 + w ≤ length l → minus ≡ overwrite l 2 w (λ k. outer-part high-split limit w (from-place 1 high) k -ℤ outer-part low-split limit w (from-place 1 high) k) → Run 67108864 minus 2 w
+    minus-run : (l : List ℤ) {minus : List ℤ} → 2 + w ≤ length l → minus ≡ overwrite l 2 w (λ k. outer-part high-split limit w (from-place 1 high) k -ℤ outer-part low-split limit w (from-place 1 high) k) → Run 67108864 minus 2 w
     minus-run l room p =
         laid-run 67108864 l 2 w _ p room (λ k i. omega (arith, abs-sub (outer-part high-split limit w (from-place 1 high) k) (outer-part low-split limit w (from-place 1 high) k), outer-small high-split high-split (four .1) (four .1) high f k, outer-small low-split high-split (four .0) (four .1) high f k))
 
-    pub plus-run : (l : List ℤ) {plus : List ℤ} → 2 + w ≤ length l → plus ≡ overwrite l 2 w (λ k. outer-part high-split limit w (from-place 1 high) k +ℤ outer-part low-split limit w (from-place 1 high) k) → Run 67108864 plus 2 w
+    plus-run : (l : List ℤ) {plus : List ℤ} → 2 + w ≤ length l → plus ≡ overwrite l 2 w (λ k. outer-part high-split limit w (from-place 1 high) k +ℤ outer-part low-split limit w (from-place 1 high) k) → Run 67108864 plus 2 w
     plus-run l room p =
         laid-run 67108864 l 2 w _ p room (λ k i. omega (arith, abs-add (outer-part high-split limit w (from-place 1 high) k) (outer-part low-split limit w (from-place 1 high) k), outer-small high-split high-split (four .1) (four .1) high f k, outer-small low-split high-split (four .0) (four .1) high f k))
 
@@ -193,6 +193,9 @@ module _ (limit : ℤ) (sign : T (nonNeg limit)) (w h r : ℕ) (some : 1 ≤ w) 
         (p : parts ≡ overwrite l₁ 2 w (outer-part high-split limit w (from-place 1 low)))
         (q : minus ≡ overwrite l₂ 2 w (λ k. outer-part high-split limit w (from-place 1 high) k -ℤ outer-part low-split limit w (from-place 1 high) k))
         (u : plus ≡ overwrite l₃ 2 w (λ k. outer-part high-split limit w (from-place 1 high) k +ℤ outer-part low-split limit w (from-place 1 high) k)) where
+      pub outer-runs : Run 67108864 parts 2 w × Run 67108864 minus 2 w × Run 67108864 plus 2 w
+      outer-runs = (parts-run l₁ room₁ p, minus-run l₂ room₂ q, plus-run l₃ room₃ u)
+
       low-joined : (c : ℕ) → along high-join 1 w (from-place 2 parts) c ≡ low-parts limit w (Line low-split) c
       unfolding low-parts
       low-joined c = along-inside high-join w some _ _ (λ k i. laid-at l₁ 2 w _ p room₁ k i ∙ outer-inside high-split limit w some (from-place 1 low) (Line low-split) e k) c
@@ -207,15 +210,12 @@ module _ (limit : ℤ) (sign : T (nonNeg limit)) (w h r : ℕ) (some : 1 ≤ w) 
           both : (t : Taps) (k : ℕ) → outer-part t limit w (from-place 1 high) k ≡ outer-part t limit w (Line high-split) k
           both t k = outer-inside t limit w some (from-place 1 high) (Line high-split) f k
 
-      pub apart-laid : (l : List ℤ) (at : ℕ) {apart : List ℤ} → apart ≡ overwrite l at w (λ k. crossed-along w (from-place 2 minus) (from-place 2 plus) k -ℤ along high-join 1 w (from-place 2 parts) k)
-          → apart ≡ overwrite l at w (apart-row limit w (Line low-split) (Line high-split))
-      unfolding apart-row
-      apart-laid l at z = z ∙ overwrite-cong l at w _ _ (λ k i. λ m. high-joined k m -ℤ low-joined k m)
-
-      pub together-laid : (l : List ℤ) (at : ℕ) {together : List ℤ} → together ≡ overwrite l at w (λ k. crossed-along w (from-place 2 minus) (from-place 2 plus) k +ℤ along high-join 1 w (from-place 2 parts) k)
-          → together ≡ overwrite l at w (together-row limit w (Line low-split) (Line high-split))
-      unfolding together-row
-      together-laid l at z = z ∙ overwrite-cong l at w _ _ (λ k i. λ m. high-joined k m +ℤ low-joined k m)
+      -- code's two rows
+      pub both-laid : (l l' : List ℤ) (at : ℕ) {apart together : List ℤ} → apart ≡ overwrite l at w (λ k. crossed-along w (from-place 2 minus) (from-place 2 plus) k -ℤ along high-join 1 w (from-place 2 parts) k)
+          → together ≡ overwrite l' at w (λ k. crossed-along w (from-place 2 minus) (from-place 2 plus) k +ℤ along high-join 1 w (from-place 2 parts) k)
+          → (apart ≡ overwrite l at w (apart-row limit w (Line low-split) (Line high-split))) × (together ≡ overwrite l' at w (together-row limit w (Line low-split) (Line high-split)))
+      unfolding apart-row together-row
+      both-laid l l' at z z' = (z ∙ overwrite-cong l at w _ _ (λ k i. λ m. high-joined k m -ℤ low-joined k m), z' ∙ overwrite-cong l' at w _ _ (λ k i. λ m. high-joined k m +ℤ low-joined k m))
 
 -- ---- from the slots that code found
 module _ (w h r : ℕ) (ring : List ℤ) {a b : ℕ} (is-a : a ≡ slot-of 3 w h (pos r -ℤ pos 1)) (is-b : b ≡ slot-of 3 w h (pos r +ℤ pos 1)) where

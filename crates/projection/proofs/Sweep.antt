@@ -170,97 +170,6 @@ module _ (limit low high : ℤ) (own : List ℤ) (at : ℕ) (guide : List ℕ) (
         togethers = record { holds = λ q c i j. absurd (omega arith) };
       }
 
-      module _ {now ring apart together : List ℤ} {r : ℕ} (s : Swept now ring apart together r) (i : r < h) where
-        -- the row after r, or the one that it means
-        abbrev next : ℕ
-        next = reflect h (pos (r + 1))
-
-        next-near : (r ≤ next + 1) × (next ≤ r + 1) × (next < h)
-        next-near = let q = reflect-after h r 1 i in (q .0, q .1, reflect-lt h (p .height-from) (pos (r + 1)))
-
-        -- code's number x of that row
-        module _ {x : ℕ} (is-x : x ≡ next) where
-          pub next-rows : Run reach now (at + x * w) w × InRow guide w (from + x * down) across
-          next-rows =
-              subst (λ (q : ℕ). Run reach now (at + q * w) w × InRow guide w (from + q * down) across) (sym is-x)
-              (own-row (omega arith) (s .plane) next (omega (arith, next-near .0)) (next-near .2), guide-row (omega arith) (s .plane) next (next-near .2))
-
-        module _ (room : 3 * w ≤ length ring) {x : ℕ} (is-x : x ≡ next) {ring' : List ℤ} (laid : ring' ≡ overwrite ring (slot 3 w x) w (difference-line now (at + x * w) guide (from + x * down) across)) where
-          e : ring' ≡ overwrite ring (slot 3 w next) w (difference-line now (at + next * w) guide (from + next * down) across)
-          e = laid ∙ (λ j. overwrite ring (slot 3 w (is-x j)) w (difference-line now (at + is-x j * w) guide (from + is-x j * down) across))
-
-          next-ring : Ring 3 w ring' D (r - 1) (min (r + 2) h)
-          next-ring =
-              ring-laid 3 w (omega arith) ring room D (r - 1) (min (r + 1) h) (s .differences) next _ e (difference-at (omega arith) (s .plane) next (omega (arith, next-near .0)) (next-near .2)) (r - 1) (min (r + 2) h)
-              (omega arith) (omega (arith, next-near .0)) (omega (arith, next-near .1, next-near .2)) old
-            where
-              old : (q : ℕ) → r - 1 ≤ q → q < min (r + 2) h → (q ≡ next → ⊥) → (r - 1 ≤ q) × (q < min (r + 1) h)
-              old q j k d = (j, go (decLt q (r + 1)))
-                where
-                  go : Dec (q < r + 1) → q < min (r + 1) h
-                  go (yes b) = omega arith
-                  go (no b) = absurd (d (sym (reflect-inside h (r + 1) (omega arith) ∙ omega arith)))
-
-          -- a row near r
-          near-row : (q : ℕ) → r ≤ q + 1 → q ≤ r + 1 → q < h → (c : ℕ) → c < w → value ring' (slot 3 w q + c) ≡ D q c
-          near-row q j k b c m = next-ring .holds q c (omega arith) (omega arith) m
-
-          long-ring : length ring' ≡ length ring
-          long-ring = ap length e ∙ length-overwrite ring (slot 3 w next) w _ (omega (arith, slot-room 3 w next (omega arith)))
-
-          near-run : (q : ℕ) → r ≤ q + 1 → q ≤ r + 1 → q < h → Run reach ring' (slot 3 w q) w
-          near-run q j k b = record {
-            inside = omega (arith, long-ring, slot-room 3 w q (omega arith));
-            small = λ c m. subst (λ (z : ℤ). natAbs z ≤ reach) (sym (near-row q j k b c m)) (difference-small q c b m);
-          }
-
-          abbrev before : ℕ
-          before = reflect h (pos r -ℤ pos 1)
-
-          before-near : (r ≤ before + 1) × (before ≤ r + 1) × (before < h)
-          before-near = let q = reflect-before h r 1 i in (q .0, q .1, reflect-lt h (p .height-from) (pos r -ℤ pos 1))
-
-          pub ring-rows : RingRows reach ring' w h r
-          ring-rows = record {
-            above = near-run before (before-near .0) (before-near .1) (before-near .2);
-            here = near-run r (omega arith) (omega arith) i;
-            below = near-run next (next-near .0) (next-near .1) (next-near .2);
-          }
-
-          -- ---- the rings of joined parts, with row r
-          -- the lines along the columns
-          line-is : (t : Taps) → t .far ≡ pos 0 → (c : ℕ) → c < w → ring-line t ring' w h r c ≡ along-columns t 1 h D r c
-          unfolding ring-line three along-columns along tap
-          line-is t z c m =
-              (λ j. weighted t (pos 0) (near-row before (before-near .0) (before-near .1) (before-near .2) c m j) ((near-row r (omega arith) (omega arith) i c m ∙ ap (λ (q : ℕ). D q c) (sym (reflect-inside h r i))) j) (near-row next (next-near .0) (next-near .1) (next-near .2) c m j) (pos 0))
-              ∙ weighted-three t z _ _ _ _ _
-
-          apart-is : (c : ℕ) → c < w → apart-row limit w (ring-line low-split ring' w h r) (ring-line high-split ring' w h r) c ≡ A r c
-          apart-is c m = apart-inside limit w (p .width-from) _ _ _ _ (line-is low-split (unfold low-split in refl)) (line-is high-split (unfold high-split in refl)) c
-
-          together-is : (c : ℕ) → c < w → together-row limit w (ring-line low-split ring' w h r) (ring-line high-split ring' w h r) c ≡ B r c
-          together-is c m = together-inside limit w (p .width-from) _ _ _ _ (line-is low-split (unfold low-split in refl)) (line-is high-split (unfold high-split in refl)) c
-
-          parts-ring : (f : ℕ → ℕ → ℤ) (g : ℕ → ℤ) → ((c : ℕ) → c < w → g c ≡ f r c) → (l : List ℤ) → 5 * w ≤ length l → Ring 5 w l f (r - 4) r → {l' : List ℤ} → l' ≡ overwrite l (slot 5 w r) w g → Ring 5 w l' f (r - 4) (r + 1)
-          parts-ring f g is l fit old laid = ring-laid 5 w (omega arith) l fit f (r - 4) r old r g laid is (r - 4) (r + 1) (omega arith) (omega arith) (omega arith) (λ q j k d. (j, omega arith))
-
-          module _ (room-a : 5 * w ≤ length apart) (room-b : 5 * w ≤ length together) {apart' together' : List ℤ}
-              (is-a : apart' ≡ overwrite apart (slot 5 w r) w (apart-row limit w (ring-line low-split ring' w h r) (ring-line high-split ring' w h r)))
-              (is-b : together' ≡ overwrite together (slot 5 w r) w (together-row limit w (ring-line low-split ring' w h r) (ring-line high-split ring' w h r))) where
-            pub apart-ring : Ring 5 w apart' A (r - 4) (r + 1)
-            apart-ring = parts-ring A _ apart-is apart room-a (s .aparts) is-a
-
-            pub together-ring : Ring 5 w together' B (r - 4) (r + 1)
-            together-ring = parts-ring B _ together-is together room-b (s .togethers) is-b
-
-            pub swept-next : {out : List ℤ} {n : ℕ} → n ≡ r + 1 - 2 → out ≡ with-rows n → Swept out ring' apart' together' (r + 1)
-            swept-next e q = record {
-              plane = q ∙ ap with-rows e;
-              differences = ring-part (omega arith) (omega arith) next-ring;
-              aparts = ring-part (omega arith) (omega arith) apart-ring;
-              togethers = ring-part (omega arith) (omega arith) together-ring;
-            }
-
       -- ---- rows that are settled from the rings
       module _ {now apart together : List ℤ} {lo hi f n : ℕ} (room-a : 5 * w ≤ length apart) (room-b : 5 * w ≤ length together) (aparts : Ring 5 w apart A lo hi) (togethers : Ring 5 w together B lo hi)
           (le : f ≤ n) (to : n ≤ h) (is : now ≡ with-rows f) (inside : (q : ℕ) → f ≤ q → q < n → (lo ≤ q - 2) × (min (q + 3) h ≤ hi)) where
@@ -351,6 +260,114 @@ module _ (limit low high : ℤ) (own : List ℤ) (at : ℕ) (guide : List ℕ) (
 
                 split : ((f * w + k) / w ≡ f + k / w) × ((f * w + k) % w ≡ k % w)
                 split = (ap (λ (x : ℕ). x / w) here ∙ digits-div (f + k / w) column, ap (λ (x : ℕ). x % w) here ∙ digits-mod (f + k / w) column)
+
+      module _ {now ring apart together : List ℤ} {r : ℕ} (s : Swept now ring apart together r) (i : r < h) where
+        -- the row after r, or the one that it means
+        abbrev next : ℕ
+        next = reflect h (pos (r + 1))
+
+        next-near : (r ≤ next + 1) × (next ≤ r + 1) × (next < h)
+        next-near = let q = reflect-after h r 1 i in (q .0, q .1, reflect-lt h (p .height-from) (pos (r + 1)))
+
+        -- code's number x of that row
+        module _ {x : ℕ} (is-x : x ≡ next) where
+          pub next-rows : Run reach now (at + x * w) w × InRow guide w (from + x * down) across
+          next-rows =
+              subst (λ (q : ℕ). Run reach now (at + q * w) w × InRow guide w (from + q * down) across) (sym is-x)
+              (own-row (omega arith) (s .plane) next (omega (arith, next-near .0)) (next-near .2), guide-row (omega arith) (s .plane) next (next-near .2))
+
+        module _ (room : 3 * w ≤ length ring) {x : ℕ} (is-x : x ≡ next) {ring' : List ℤ} (laid : ring' ≡ overwrite ring (slot 3 w x) w (difference-line now (at + x * w) guide (from + x * down) across)) where
+          e : ring' ≡ overwrite ring (slot 3 w next) w (difference-line now (at + next * w) guide (from + next * down) across)
+          e = laid ∙ (λ j. overwrite ring (slot 3 w (is-x j)) w (difference-line now (at + is-x j * w) guide (from + is-x j * down) across))
+
+          next-ring : Ring 3 w ring' D (r - 1) (min (r + 2) h)
+          next-ring =
+              ring-laid 3 w (omega arith) ring room D (r - 1) (min (r + 1) h) (s .differences) next _ e (difference-at (omega arith) (s .plane) next (omega (arith, next-near .0)) (next-near .2)) (r - 1) (min (r + 2) h)
+              (omega arith) (omega (arith, next-near .0)) (omega (arith, next-near .1, next-near .2)) old
+            where
+              old : (q : ℕ) → r - 1 ≤ q → q < min (r + 2) h → (q ≡ next → ⊥) → (r - 1 ≤ q) × (q < min (r + 1) h)
+              old q j k d = (j, go (decLt q (r + 1)))
+                where
+                  go : Dec (q < r + 1) → q < min (r + 1) h
+                  go (yes b) = omega arith
+                  go (no b) = absurd (d (sym (reflect-inside h (r + 1) (omega arith) ∙ omega arith)))
+
+          -- a row near r
+          near-row : (q : ℕ) → r ≤ q + 1 → q ≤ r + 1 → q < h → (c : ℕ) → c < w → value ring' (slot 3 w q + c) ≡ D q c
+          near-row q j k b c m = next-ring .holds q c (omega arith) (omega arith) m
+
+          long-ring : length ring' ≡ length ring
+          long-ring = ap length e ∙ length-overwrite ring (slot 3 w next) w _ (omega (arith, slot-room 3 w next (omega arith)))
+
+          near-run : (q : ℕ) → r ≤ q + 1 → q ≤ r + 1 → q < h → Run reach ring' (slot 3 w q) w
+          near-run q j k b = record {
+            inside = omega (arith, long-ring, slot-room 3 w q (omega arith));
+            small = λ c m. subst (λ (z : ℤ). natAbs z ≤ reach) (sym (near-row q j k b c m)) (difference-small q c b m);
+          }
+
+          abbrev before : ℕ
+          before = reflect h (pos r -ℤ pos 1)
+
+          before-near : (r ≤ before + 1) × (before ≤ r + 1) × (before < h)
+          before-near = let q = reflect-before h r 1 i in (q .0, q .1, reflect-lt h (p .height-from) (pos r -ℤ pos 1))
+
+          pub ring-rows : RingRows reach ring' w h r
+          ring-rows = record {
+            above = near-run before (before-near .0) (before-near .1) (before-near .2);
+            here = near-run r (omega arith) (omega arith) i;
+            below = near-run next (next-near .0) (next-near .1) (next-near .2);
+          }
+
+          -- ---- the rings of joined parts, with row r
+          -- the lines along the columns
+          line-is : (t : Taps) → t .far ≡ pos 0 → (c : ℕ) → c < w → ring-line t ring' w h r c ≡ along-columns t 1 h D r c
+          unfolding ring-line three along-columns along tap
+          line-is t z c m =
+              (λ j. weighted t (pos 0) (near-row before (before-near .0) (before-near .1) (before-near .2) c m j) ((near-row r (omega arith) (omega arith) i c m ∙ ap (λ (q : ℕ). D q c) (sym (reflect-inside h r i))) j) (near-row next (next-near .0) (next-near .1) (next-near .2) c m j) (pos 0))
+              ∙ weighted-three t z _ _ _ _ _
+
+          apart-is : (c : ℕ) → c < w → apart-row limit w (ring-line low-split ring' w h r) (ring-line high-split ring' w h r) c ≡ A r c
+          apart-is c m = apart-inside limit w (p .width-from) _ _ _ _ (line-is low-split (unfold low-split in refl)) (line-is high-split (unfold high-split in refl)) c
+
+          together-is : (c : ℕ) → c < w → together-row limit w (ring-line low-split ring' w h r) (ring-line high-split ring' w h r) c ≡ B r c
+          together-is c m = together-inside limit w (p .width-from) _ _ _ _ (line-is low-split (unfold low-split in refl)) (line-is high-split (unfold high-split in refl)) c
+
+          parts-ring : (f : ℕ → ℕ → ℤ) (g : ℕ → ℤ) → ((c : ℕ) → c < w → g c ≡ f r c) → (l : List ℤ) → 5 * w ≤ length l → Ring 5 w l f (r - 4) r → {l' : List ℤ} → l' ≡ overwrite l (slot 5 w r) w g → Ring 5 w l' f (r - 4) (r + 1)
+          parts-ring f g is l fit old laid = ring-laid 5 w (omega arith) l fit f (r - 4) r old r g laid is (r - 4) (r + 1) (omega arith) (omega arith) (omega arith) (λ q j k d. (j, omega arith))
+
+          module _ (room-a : 5 * w ≤ length apart) (room-b : 5 * w ≤ length together) {apart' together' : List ℤ}
+              (is-a : apart' ≡ overwrite apart (slot 5 w r) w (apart-row limit w (ring-line low-split ring' w h r) (ring-line high-split ring' w h r)))
+              (is-b : together' ≡ overwrite together (slot 5 w r) w (together-row limit w (ring-line low-split ring' w h r) (ring-line high-split ring' w h r))) where
+            apart-ring : Ring 5 w apart' A (r - 4) (r + 1)
+            apart-ring = parts-ring A _ apart-is apart room-a (s .aparts) is-a
+
+            together-ring : Ring 5 w together' B (r - 4) (r + 1)
+            together-ring = parts-ring B _ together-is together room-b (s .togethers) is-b
+
+            room-a' : 5 * w ≤ length apart'
+            room-a' = omega (arith, ap length is-a ∙ length-overwrite apart (slot 5 w r) w _ (omega (arith, slot-room 5 w r (omega arith))))
+
+            room-b' : 5 * w ≤ length together'
+            room-b' = omega (arith, ap length is-b ∙ length-overwrite together (slot 5 w r) w _ (omega (arith, slot-room 5 w r (omega arith))))
+
+            -- ---- the turn that settles the rows from f on and below n
+            module _ {f n : ℕ} (is-f : f ≡ r - 2) (is-n : n ≡ r + 1 - 2) where
+              from-row : now ≡ with-rows f
+              from-row = s .plane ∙ ap with-rows (sym is-f)
+
+              in-rings : (q : ℕ) → f ≤ q → q < n → (r - 4 ≤ q - 2) × (min (q + 3) h ≤ r + 1)
+              in-rings q j k = (omega arith, omega arith)
+
+              pub settleable-next : Settleable now at apart' together' w h f n
+              settleable-next = settleable room-a' room-b' apart-ring together-ring (omega arith) (omega arith) from-row in-rings
+
+              pub swept-next : {out : List ℤ} → out ≡ overwrite now (at + f * w) ((n - f) * w) (λ k. settled-row low high now at apart' together' w h (f + k / w) (k % w)) → Swept out ring' apart' together' (r + 1)
+              swept-next laid-rows = record {
+                plane = rows-settled room-a' room-b' apart-ring together-ring (omega arith) (omega arith) from-row in-rings laid-rows ∙ ap with-rows is-n;
+                differences = ring-part (omega arith) (omega arith) next-ring;
+                aparts = ring-part (omega arith) (omega arith) apart-ring;
+                togethers = ring-part (omega arith) (omega arith) together-ring;
+              }
 
   -- ---- the settled plane is the projected plane
   pub settled-projected : 1 ≤ w → 1 ≤ h → (r c : ℕ) → r < h → c < w → settled-plane r c ≡ projected limit low high w h (guide-plane guide from down across) (own-plane own at w) r c

@@ -9,7 +9,7 @@ use mir.Facts.{toZ-ofZ as back}
 use Rattle.integers.specs.Lists.{overwrite}
 use Rattle.filters.specs.Bank.{Distance, low-split, high-split}
 use Rattle.projection.specs.Rows.{slot, apart-row, together-row, ring-line}
-use Rattle.projection.proofs.Rows.{slot-room, four, ring-runs, line-laid, line-run, parts-run, minus-run, plus-run, apart-laid, together-laid}
+use Rattle.projection.proofs.Rows.{slot-room, four, ring-runs, line-laid, line-run, outer-runs, both-laid}
 use borrow.Author.Needs.{needs}
 use Rattle.projection.proofs.parts_row.Statement.{statement}
 use Rattle.projection.proofs.parts_row.Tie as tie
@@ -55,32 +55,30 @@ join-along-requires c κs =
     let e = line-laid (a .width) (a .height) (a .r) (now (a .differences)) (c .before .before .before .before .before .before .before .before .before .before .before .before .before .before .before .before .before .before .before .before .before .before .slot-before .ensures .0) (c .before .before .before .before .before .before .before .before .before .before .before .before .before .before .before .before .before .before .before .before .before .slot-after .ensures .0) low-split (now (a .low)) (c .before .before .before .before .before .before .before .before .before .before .before .before .before .before .before .before .before .before .split-line .ensures .0) in
     let f = line-laid (a .width) (a .height) (a .r) (now (a .differences)) (c .before .before .before .before .before .before .before .before .before .before .before .before .before .before .before .before .before .before .before .before .before .before .slot-before .ensures .0) (c .before .before .before .before .before .before .before .before .before .before .before .before .before .before .before .before .before .before .before .before .before .slot-after .ensures .0) high-split (now (a .high)) (c .before .before .before .before .before .before .before .before .before .before .before .before .before .before .before .before .before .before .split-line .ensures .1) in
     let o = c .before .before .before .before .before .before .before .before .before .before .outer-along .ensures .1 in
-    let parts = parts-run (toZ w32 (ofZ w32 (a .limit))) (limit .sign) (a .width) (a .height) (a .r) (p .0) (now (a .differences)) (p .6) (now (a .low)) (now (a .high)) (omega (arith, s .pre .1 .0 .0)) (omega (arith, s .pre .1 .0 .1)) e f (now (a .parts)) (omega (arith, s .pre .1 .0 .2)) (o .0) in
-    let minus = minus-run (toZ w32 (ofZ w32 (a .limit))) (limit .sign) (a .width) (a .height) (a .r) (p .0) (now (a .differences)) (p .6) (now (a .low)) (now (a .high)) (omega (arith, s .pre .1 .0 .0)) (omega (arith, s .pre .1 .0 .1)) e f (now (a .minus)) (omega (arith, s .pre .1 .0 .3)) (o .1 .0) in
-    let plus = plus-run (toZ w32 (ofZ w32 (a .limit))) (limit .sign) (a .width) (a .height) (a .r) (p .0) (now (a .differences)) (p .6) (now (a .low)) (now (a .high)) (omega (arith, s .pre .1 .0 .0)) (omega (arith, s .pre .1 .0 .1)) e f (now (a .plus)) (omega (arith, s .pre .1 .0 .4)) (o .1 .1) in
+    let runs = outer-runs (toZ w32 (ofZ w32 (a .limit))) (limit .sign) (a .width) (a .height) (a .r) (p .0) (now (a .differences)) (p .6) (now (a .low)) (now (a .high)) (omega (arith, s .pre .1 .0 .0)) (omega (arith, s .pre .1 .0 .1)) e f (now (a .parts)) (now (a .minus)) (now (a .plus)) (omega (arith, s .pre .1 .0 .2)) (omega (arith, s .pre .1 .0 .3)) (omega (arith, s .pre .1 .0 .4)) (o .0) (o .1 .0) (o .1 .1) in
     let room = slot-room 5 (a .width) (a .r) (omega arith) in
-    ((p .0, p .1, search needs, search needs, search needs), (parts, minus, plus, omega (arith, room, s .pre .1 .1 .0), omega (arith, room, s .pre .1 .1 .1)))
+    ((p .0, p .1, search needs, search needs, search needs), (runs .0, runs .1, runs .2, omega (arith, room, s .pre .1 .1 .0), omega (arith, room, s .pre .1 .1 .1)))
 
 same-length : tie.Need-same-length
-same-length c = search needs
+same-length c = c .before .before .before .before .before .before .before .before .before .before .before .before .before .before .before .before .outer-along .kept .0 ∙ c .before .before .before .before .before .before .before .before .before .before .before .before .before .before .before .before .before .before .before .before .before .before .before .before .split-line .kept .1 .1 .1 .1 .1 .0
 
 same-length-2 : tie.Need-same-length-2
-same-length-2 c = search needs
+same-length-2 c = c .before .before .before .before .before .before .before .before .before .before .before .before .before .before .before .before .outer-along .kept .1 .0 ∙ c .before .before .before .before .before .before .before .before .before .before .before .before .before .before .before .before .before .before .before .before .before .before .before .before .split-line .kept .1 .1 .1 .1 .1 .1 .0
 
 same-length-3 : tie.Need-same-length-3
-same-length-3 c = search needs
+same-length-3 c = c .before .before .before .before .before .join-along .kept .0 ∙ c .before .before .before .before .before .before .before .before .before .before .before .before .before .before .before .before .outer-along .kept .1 .1 .1 .1 .0
 
 same-length-4 : tie.Need-same-length-4
-same-length-4 c = search needs
+same-length-4 c = c .before .before .before .before .before .join-along .kept .1 .0 ∙ c .before .before .before .before .before .before .before .before .before .before .before .before .before .before .before .before .outer-along .kept .1 .1 .1 .1 .1 .0
 
 same-length-5 : tie.Need-same-length-5
-same-length-5 c = search needs
+same-length-5 c = c .before .before .before .before .before .join-along .kept .1 .1 .0 ∙ c .before .before .before .before .before .before .before .before .before .before .before .before .before .before .before .before .outer-along .kept .1 .1 .1 .1 .1 .1 .0
 
 same-length-6 : tie.Need-same-length-6
-same-length-6 c = search needs
+same-length-6 c = c .before .before .before .before .before .join-along .kept .1 .1 .1 .1 .0
 
 same-length-7 : tie.Need-same-length-7
-same-length-7 c = search needs
+same-length-7 c = c .before .before .before .before .before .join-along .kept .1 .1 .1 .1 .1 .0
 
 returns : tie.Need-returns
 returns c =
@@ -94,11 +92,10 @@ returns c =
     let j = c .before .before .before .before .before .join-along .ensures .1 in
     let l = back (s .fits .limit) in
     let low = ring-line low-split (now (a .differences)) (a .width) (a .height) (a .r) in
-    let high = ring-line high-split (now (a .differences)) (a .width) (a .height) (a .r) in (
-      apart-laid (toZ w32 (ofZ w32 (a .limit))) (limit .sign) (a .width) (a .height) (a .r) (p .0) (now (a .differences)) (p .6) (now (a .low)) (now (a .high)) (omega (arith, s .pre .1 .0 .0)) (omega (arith, s .pre .1 .0 .1)) e f (now (a .parts)) (now (a .minus)) (now (a .plus)) (omega (arith, s .pre .1 .0 .2)) (omega (arith, s .pre .1 .0 .3)) (omega (arith, s .pre .1 .0 .4)) (o .0) (o .1 .0) (o .1 .1) (now (a .apart)) (slot 5 (a .width) (a .r)) (j .0)
-          ∙ (λ m. overwrite (now (a .apart)) (slot 5 (a .width) (a .r)) (a .width) (apart-row (l m) (a .width) low high)),
-      together-laid (toZ w32 (ofZ w32 (a .limit))) (limit .sign) (a .width) (a .height) (a .r) (p .0) (now (a .differences)) (p .6) (now (a .low)) (now (a .high)) (omega (arith, s .pre .1 .0 .0)) (omega (arith, s .pre .1 .0 .1)) e f (now (a .parts)) (now (a .minus)) (now (a .plus)) (omega (arith, s .pre .1 .0 .2)) (omega (arith, s .pre .1 .0 .3)) (omega (arith, s .pre .1 .0 .4)) (o .0) (o .1 .0) (o .1 .1) (now (a .together)) (slot 5 (a .width) (a .r)) (j .1)
-          ∙ (λ m. overwrite (now (a .together)) (slot 5 (a .width) (a .r)) (a .width) (together-row (l m) (a .width) low high)),
+    let high = ring-line high-split (now (a .differences)) (a .width) (a .height) (a .r) in
+    let laid = both-laid (toZ w32 (ofZ w32 (a .limit))) (limit .sign) (a .width) (a .height) (a .r) (p .0) (now (a .differences)) (p .6) (now (a .low)) (now (a .high)) (omega (arith, s .pre .1 .0 .0)) (omega (arith, s .pre .1 .0 .1)) e f (now (a .parts)) (now (a .minus)) (now (a .plus)) (omega (arith, s .pre .1 .0 .2)) (omega (arith, s .pre .1 .0 .3)) (omega (arith, s .pre .1 .0 .4)) (o .0) (o .1 .0) (o .1 .1) (now (a .apart)) (now (a .together)) (slot 5 (a .width) (a .r)) (j .0) (j .1) in (
+      laid .0 ∙ (λ m. overwrite (now (a .apart)) (slot 5 (a .width) (a .r)) (a .width) (apart-row (l m) (a .width) low high)),
+      laid .1 ∙ (λ m. overwrite (now (a .together)) (slot 5 (a .width) (a .r)) (a .width) (together-row (l m) (a .width) low high)),
     )
 
 pub parts-row-spec : {M : Type 1} → statement M

@@ -12,7 +12,7 @@ use Rattle.filters.specs.Bank.{Distance}
 use Rattle.integers.specs.Lists.{overwrite}
 use Rattle.projection.specs.Projection.{projected}
 use Rattle.projection.specs.Planes.{own-plane, guide-plane}
-use Rattle.projection.proofs.Sweep.{Swept, with-rows, long, start, first-rows, next-rows, ring-rows, apart-ring, together-ring, swept-next, settleable, rows-settled, all-projected}
+use Rattle.projection.proofs.Sweep.{Swept, with-rows, start, first-rows, next-rows, ring-rows, settleable-next, swept-next, settleable, rows-settled, all-projected}
 use Rattle.projection.proofs.project_rows.Statement.{statement}
 use Rattle.projection.proofs.project_rows.Tie as tie
 
@@ -96,18 +96,14 @@ settle-rows-requires c κs =
     let s = l .before .before .before .before .before .before in
     let a = s .args in
     let limit = subst Distance (sym (back (s .fits .limit))) (s .pre .0 .0) in
-    let z = s .pre .0 .1 in
     let v = l .loop .inv in
     let i = c .before .before .before .before .before .before .before .before .before .before .before .before .before .before .before .before .before .before .before .before .before .before .before .before .before .before .loop-test .taken in
     let x = c .before .before .before .before .before .before .before .before .before .before .before .before .before .before .before .before .before .before .before .before .before .before .before .before .before .reflected .ensures .0 in
     let d = c .before .before .before .before .before .before .before .before .before .before .before .before .before .before .before .before .before .before .before .before .before .before .difference-row2 .ensures in
     let q = c .before .before .before .before .before .before .before .before .before .before .before .before .parts-row in
-    let long = q .kept .1 .1 .1 .1 .1 .1 .1 .1 .1 .1 in
     let f = c .before .before .before .ready .ensures in
     let n = c .before .before .ready2 .ensures in
-    let ra = apart-ring (toZ w32 (ofZ w32 (a .limit))) (toZ w32 (ofZ w32 (a .low))) (toZ w32 (ofZ w32 (a .high))) (now (a .own)) (a .at) (now (a .guide)) (a .from) (a .down) (a .across) (a .width) (a .height) (s .pre .0 .1) (limit .sign) (v .1) i (room-d l) x d (room-a l) (room-b l) (q .ensures .0) (q .ensures .1) in
-    let rb = together-ring (toZ w32 (ofZ w32 (a .limit))) (toZ w32 (ofZ w32 (a .low))) (toZ w32 (ofZ w32 (a .high))) (now (a .own)) (a .at) (now (a .guide)) (a .from) (a .down) (a .across) (a .width) (a .height) (s .pre .0 .1) (limit .sign) (v .1) i (room-d l) x d (room-a l) (room-b l) (q .ensures .0) (q .ensures .1) in
-    settleable (toZ w32 (ofZ w32 (a .limit))) (toZ w32 (ofZ w32 (a .low))) (toZ w32 (ofZ w32 (a .high))) (now (a .own)) (a .at) (now (a .guide)) (a .from) (a .down) (a .across) (a .width) (a .height) (s .pre .0 .1) (limit .sign) (omega (arith, room-a l, long .0)) (omega (arith, room-b l, long .1 .0)) ra rb (omega (arith, f, n)) (omega (arith, n, i)) (v .1 .plane ∙ ap (with-rows (toZ w32 (ofZ w32 (a .limit))) (toZ w32 (ofZ w32 (a .low))) (toZ w32 (ofZ w32 (a .high))) (now (a .own)) (a .at) (now (a .guide)) (a .from) (a .down) (a .across) (a .width) (a .height)) (sym f)) (λ q j k. (omega (arith, f, j), omega (arith, n, k)))
+    settleable-next (toZ w32 (ofZ w32 (a .limit))) (toZ w32 (ofZ w32 (a .low))) (toZ w32 (ofZ w32 (a .high))) (now (a .own)) (a .at) (now (a .guide)) (a .from) (a .down) (a .across) (a .width) (a .height) (s .pre .0 .1) (limit .sign) (v .1) i (room-d l) x d (room-a l) (room-b l) (q .ensures .0) (q .ensures .1) f n
 
 add-r : tie.Need-add-r Inv-loop μ-loop
 add-r c =
@@ -126,7 +122,6 @@ loop-again c =
     let s = l .before .before .before .before .before .before in
     let a = s .args in
     let limit = subst Distance (sym (back (s .fits .limit))) (s .pre .0 .0) in
-    let z = s .pre .0 .1 in
     let v = l .loop .inv in
     let i = c .before .before .before .before .before .before .before .before .before .before .before .before .before .before .before .before .before .before .before .before .before .before .before .before .before .before .before .before .loop-test .taken in
     let x = c .before .before .before .before .before .before .before .before .before .before .before .before .before .before .before .before .before .before .before .before .before .before .before .before .before .before .before .reflected .ensures .0 in
@@ -134,12 +129,9 @@ loop-again c =
     let q = c .before .before .before .before .before .before .before .before .before .before .before .before .before .before .parts-row in
     let long = q .kept .1 .1 .1 .1 .1 .1 .1 .1 .1 .1 in
     let f = c .before .before .before .before .before .ready .ensures in
-    let n = c .before .before .before .before .ready2 .ensures in
-    let ra = apart-ring (toZ w32 (ofZ w32 (a .limit))) (toZ w32 (ofZ w32 (a .low))) (toZ w32 (ofZ w32 (a .high))) (now (a .own)) (a .at) (now (a .guide)) (a .from) (a .down) (a .across) (a .width) (a .height) (s .pre .0 .1) (limit .sign) (v .1) i (room-d l) x d (room-a l) (room-b l) (q .ensures .0) (q .ensures .1) in
-    let rb = together-ring (toZ w32 (ofZ w32 (a .limit))) (toZ w32 (ofZ w32 (a .low))) (toZ w32 (ofZ w32 (a .high))) (now (a .own)) (a .at) (now (a .guide)) (a .from) (a .down) (a .across) (a .width) (a .height) (s .pre .0 .1) (limit .sign) (v .1) i (room-d l) x d (room-a l) (room-b l) (q .ensures .0) (q .ensures .1) in
-    let out = rows-settled (toZ w32 (ofZ w32 (a .limit))) (toZ w32 (ofZ w32 (a .low))) (toZ w32 (ofZ w32 (a .high))) (now (a .own)) (a .at) (now (a .guide)) (a .from) (a .down) (a .across) (a .width) (a .height) (s .pre .0 .1) (limit .sign) (omega (arith, room-a l, long .0)) (omega (arith, room-b l, long .1 .0)) ra rb (omega (arith, f, n)) (omega (arith, n, i)) (v .1 .plane ∙ ap (with-rows (toZ w32 (ofZ w32 (a .limit))) (toZ w32 (ofZ w32 (a .low))) (toZ w32 (ofZ w32 (a .high))) (now (a .own)) (a .at) (now (a .guide)) (a .from) (a .down) (a .across) (a .width) (a .height)) (sym f)) (λ q j k. (omega (arith, f, j), omega (arith, n, k))) (c .before .settle-rows .ensures) in (
+    let n = c .before .before .before .before .ready2 .ensures in (
       omega arith,
-      swept-next (toZ w32 (ofZ w32 (a .limit))) (toZ w32 (ofZ w32 (a .low))) (toZ w32 (ofZ w32 (a .high))) (now (a .own)) (a .at) (now (a .guide)) (a .from) (a .down) (a .across) (a .width) (a .height) (s .pre .0 .1) (limit .sign) (v .1) i (room-d l) x d (room-a l) (room-b l) (q .ensures .0) (q .ensures .1) n out,
+      swept-next (toZ w32 (ofZ w32 (a .limit))) (toZ w32 (ofZ w32 (a .low))) (toZ w32 (ofZ w32 (a .high))) (now (a .own)) (a .at) (now (a .guide)) (a .from) (a .down) (a .across) (a .width) (a .height) (s .pre .0 .1) (limit .sign) (v .1) i (room-d l) x d (room-a l) (room-b l) (q .ensures .0) (q .ensures .1) f n (c .before .settle-rows .ensures),
       c .before .settle-rows .kept .0 ∙ v .2,
       c .before .before .before .before .before .before .before .before .before .before .before .before .before .before .before .before .before .before .before .before .before .before .before .before .difference-row2 .kept .1 .1 .1 .1 .1 .1 .1 .1 .0 ∙ v .3,
       q .kept .1 .1 .1 .1 .1 .0 ∙ v .4,
