@@ -34,7 +34,7 @@ static int failed(const char *what)
 
 static int refused(const char *what, uint32_t number)
 {
-    fprintf(stderr, "picture: %s refused: %" PRIu32 "\n", what, number);
+    fprintf(stderr, "picture: %s refused: %" PRIu32 ", %s\n", what, number, demosaic_refusal_text(number));
     return 1;
 }
 
@@ -54,7 +54,7 @@ static int grow(struct store *store)
     return 0;
 }
 
-/* Reads standard input to its end. The store has a buffer even where there is no byte. */
+/* Reads standard input to its end. */
 static int read_store(struct store *store)
 {
     while (!feof(stdin)) {

@@ -6,6 +6,7 @@ use checks::chance::Chance;
 use checks::compiled::compiled;
 use checks::estimate::estimates_of;
 use checks::finishing::finished_of;
+use checks::header::refusal_text;
 use checks::mosaic::{Colour, Mosaic};
 use checks::mosaics::{filled, kinds};
 use checks::packet::{self, Fields};
@@ -129,7 +130,7 @@ fn no_picture_of_a_refused_packet() {
     for (number, store) in stores {
         let (output, pictures) = pictured("refused", &store);
         let told = String::from_utf8_lossy(&output.stderr);
-        assert!(told.ends_with(&format!("refused: {number}\n")), "{told:?}, {number}");
+        assert!(told.ends_with(&format!("refused: {number}, {}\n", refusal_text(number))), "{told:?}, {number}");
         assert_eq!((output.status.code(), &output.stdout[..]), (Some(1), &[][..]), "{number}");
         assert!(!pictures.iter().any(|picture| picture.exists()), "{number}");
     }
