@@ -3,6 +3,8 @@ use Prim.Native.Nat.{ℕ}
 use mathlib.Core.Bool.{Bool, true, cond, _&&_}
 use mathlib.Core.List.{List, [], _∷_, _++_}
 use lib.Dec.{leb}
+use Rattle.questions.specs.Settings.{ceiling-of}
+use Rattle.questions.specs.declared.Settings.{Settings}
 
 -- a question: its number, and whether it is answered yes
 pub record Question : Type 0 where
@@ -25,10 +27,6 @@ all-at-most top [] = true
 all-at-most top (x ∷ xs) = leb x top && all-at-most top xs
 
 -- ---- the questions that calls share
--- the ceiling of a sample and of the threshold
-abbrev pub ceiling : ℕ
-ceiling = 4095
-
 -- 1 width and 2 height in range, from `least` on
 abbrev pub size-questions : ℕ → ℕ → ℕ → List Question
 size-questions least width height = question 1 (between least 2048 width) ∷ question 2 (between least 2048 height) ∷ []
@@ -37,13 +35,13 @@ size-questions least width height = question 1 (between least 2048 width) ∷ qu
 abbrev pub shape-questions : ℕ → ℕ → ℕ → List Question
 shape-questions width height layout = size-questions 2 width height ++ (question 3 (leb layout 3) ∷ [])
 
--- 4 rounds at most 64, and 5 threshold at most `top`
-abbrev pub settings-questions : ℕ → ℕ → ℕ → List Question
-settings-questions top rounds threshold = question 4 (leb rounds 64) ∷ question 5 (leb threshold top) ∷ []
+-- 4 rounds at most 64, and 5 threshold at most the ceiling
+abbrev pub settings-questions : Settings → List Question
+settings-questions s = question 4 (leb (s .rounds) 64) ∷ question 5 (leb (s .threshold) (ceiling-of s)) ∷ []
 
 -- 1 to 5, of a frame that is to be finished
-abbrev pub frame-questions : ℕ → ℕ → ℕ → ℕ → ℕ → ℕ → List Question
-frame-questions top width height layout rounds threshold = shape-questions width height layout ++ settings-questions top rounds threshold
+abbrev pub frame-questions : ℕ → ℕ → ℕ → Settings → List Question
+frame-questions width height layout s = shape-questions width height layout ++ settings-questions s
 
 -- 9 samples at most `top`
 abbrev pub samples-question : ℕ → List ℕ → Question

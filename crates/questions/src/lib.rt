@@ -1,7 +1,50 @@
-// Inner: the checks that calls share. Each answers the number of the first question answered no, or 0.
+// Inner: a frame's settings, what a call answers, and the checks that calls share. Each check answers the number of the first question
+// answered no, or 0.
 ghost use mathlib.Core.Path.{_≡_};
 ghost use Prim.Native.Nat.{max};
+ghost use Rattle.questions.specs.Settings.{rounds-of, ceiling-of};
 ghost use Rattle.questions.specs.Questions.{ask, all-at-most, size-questions, shape-questions, settings-questions, frame-questions};
+ghost use Rattle.questions.specs.Answers.{number-of-answer};
+
+// A frame's settings. Its width, height and layout are not among them: they turn, and settings do not.
+pub struct Settings {
+    pub rounds: u8,
+    pub threshold: u16,
+}
+
+impl Settings {
+    // How many rounds are to be run.
+    pub fn rounds_to_run(self) -> u8
+        ensures { λ r. ⌜ r ≡ rounds-of self ⌝ }
+    {
+        self.rounds
+    }
+
+    // The ceiling of the samples and of the threshold.
+    pub fn ceiling(self) -> u16
+        ensures { λ r. ⌜ r ≡ ceiling-of self ⌝ }
+    {
+        4095
+    }
+}
+
+// What a call answers that hands back nothing beside.
+pub enum Answer {
+    Accepted,
+    Refused(u32),
+}
+
+impl Answer {
+    // Document 01's number of a refusal, or 0.
+    pub fn number(self) -> u32
+        ensures { λ r. ⌜ r ≡ number-of-answer self ⌝ }
+    {
+        match self {
+            Answer::Accepted => 0,
+            Answer::Refused(number) => number,
+        }
+    }
+}
 
 // Questions 1 and 2, from `least` on.
 pub fn sizes(least: usize, width: usize, height: usize) -> u32
@@ -37,27 +80,28 @@ pub fn shape(width: usize, height: usize, layout: u8) -> u32
 }
 
 // Questions 4 and 5.
-pub fn settings(top: u16, rounds: u8, threshold: u16) -> u32
-    ensures { λ r. ⌜ r ≡ ask (settings-questions top rounds threshold) ⌝ }
+pub fn settings_refusal(given: Settings) -> u32
+    ensures { λ r. ⌜ r ≡ ask (settings-questions given) ⌝ }
 {
-    if 64 < rounds {
+    if 64 < given.rounds {
         return 4;
     }
-    if top < threshold {
+    let top = given.ceiling();
+    if top < given.threshold {
         return 5;
     }
     0
 }
 
 // Questions 1 to 5 of a frame that is to be finished.
-pub fn frame(top: u16, width: usize, height: usize, layout: u8, rounds: u8, threshold: u16) -> u32
-    ensures { λ r. ⌜ r ≡ ask (frame-questions top width height layout rounds threshold) ⌝ }
+pub fn frame(width: usize, height: usize, layout: u8, given: Settings) -> u32
+    ensures { λ r. ⌜ r ≡ ask (frame-questions width height layout given) ⌝ }
 {
     let number = shape(width, height, layout);
     if number != 0 {
         return number;
     }
-    settings(top, rounds, threshold)
+    settings_refusal(given)
 }
 
 pub fn larger(a: u16, b: u16) -> u16

@@ -6,104 +6,118 @@ use native.Mathlib.Omega.{arith}
 use lib.IntN.{ℤ}
 use lib.ListN.{length}
 use borrow.Author.Tests.{eqb-true, leb-true}
-use Rattle.questions.specs.Questions.{ceiling, ask, shape-questions, settings-questions, frame-questions}
+use Rattle.questions.specs.Settings.{ceiling-of, rounds-of}
+use Rattle.questions.specs.Questions.{ask, shape-questions, settings-questions, frame-questions}
+use Rattle.questions.specs.declared.Settings.{Settings}
 use Rattle.questions.proofs.Asking.{AllYes, all-yes, all-yes-split, shape-is}
 use Rattle.questions.proofs.Answering.{answer-no, answer-yes, left-no, left-yes}
 use Rattle.turns.specs.Layout.{red-row, red-column}
-use Rattle.turns.specs.Frames.{Frame, frame, Planes, planes, lengths, listing, listings, plane-of}
+use Rattle.turns.specs.Frames.{Frame, frame, Planes, planes, listing, listings, plane-of}
 use Rattle.turns.proofs.Frames.{listing-plane-of, listing-agree}
 use Rattle.work_buffer.specs.Places.{Workable}
-use Rattle.work_buffer.specs.Lent.{buffer-questions}
+use Rattle.work_buffer.specs.Lent.{Lent, lent, rooms-of, buffer-questions}
 use Rattle.work_buffer.specs.Buffer.{with-plane, zeroed}
 use Rattle.work_buffer.proofs.Buffer.{length-with-plane, zeroed-with-plane}
-use Rattle.rounds.specs.Rounds.{rewritten, rounds}
-use Rattle.rounds.specs.Calls.{planes-questions, rounds-questions, number-of-answer, rounds-lists, RoundsResult}
+use Rattle.rounds.specs.Rounds.{Round, limit-of, rewritten, rounds}
+use Rattle.rounds.specs.Colours.{round-of}
+use Rattle.rounds.specs.Calls.{planes-questions, rounds-questions, number-of-answer, rounds-lists, with-rounds, RoundsResult}
+use Rattle.rounds.specs.declared.Colour.{Colour}
 use Rattle.rounds.specs.declared.RoundsAnswer.the-variants.{Accepted, Refused}
 use Rattle.rounds.proofs.Repeated.{no-round}
 
 -- ---- what an accepted call knows
-module _ (f : Frame) (rounds threshold : ℕ) (given : Planes (List ℕ)) (room n : ℕ) (e : n ≡ ask (rounds-questions f rounds threshold given room)) (z : n ≡ 0) where
+module _ (f : Frame) (s : Settings) (before : Lent) (n : ℕ) (e : n ≡ ask (rounds-questions f s before)) (z : n ≡ 0) where
   abbrev count : ℕ
   count = f .width * f .height
 
   -- all questions are answered yes
-  known : AllYes (frame-questions ceiling (f .width) (f .height) (f .layout) rounds threshold) × AllYes (buffer-questions count (f .samples) (lengths given) room ++ planes-questions given)
+  known : AllYes (frame-questions (f .width) (f .height) (f .layout) s) × AllYes (buffer-questions (ceiling-of s) count (f .samples) (rooms-of before) ++ planes-questions (ceiling-of s) (before .three))
   known =
-      all-yes-split (frame-questions ceiling (f .width) (f .height) (f .layout) rounds threshold) (buffer-questions count (f .samples) (lengths given) room ++ planes-questions given)
-      (all-yes (rounds-questions f rounds threshold given room) tt n e z)
+      all-yes-split (frame-questions (f .width) (f .height) (f .layout) s) (buffer-questions (ceiling-of s) count (f .samples) (rooms-of before) ++ planes-questions (ceiling-of s) (before .three))
+      (all-yes (rounds-questions f s before) tt n e z)
 
-  pub workable : Workable (f .width) (f .height) (f .samples) (given .green) room
+  pub workable : Workable (f .width) (f .height) (f .samples) (before .three .green) (length (before .work))
   workable =
       let y = known .1 in
-      let s = shape-is (f .width) (f .height) (f .layout) (all-yes-split (shape-questions (f .width) (f .height) (f .layout)) (settings-questions ceiling rounds threshold) (known .0) .0) in
+      let u = shape-is (f .width) (f .height) (f .layout) (all-yes-split (shape-questions (f .width) (f .height) (f .layout)) (settings-questions s) (known .0) .0) in
       record {
-        width-from = s .width-from;
-        width-to = s .width-to;
-        height-from = s .height-from;
-        height-to = s .height-to;
+        width-from = u .width-from;
+        width-to = u .width-to;
+        height-from = u .height-from;
+        height-to = u .height-to;
         samples = eqb-true (length (f .samples)) count (search y);
-        greens = eqb-true (length (given .green)) count (search y);
-        work = leb-true (8 * count) room (search y);
+        greens = eqb-true (length (before .three .green)) count (search y);
+        work = leb-true (8 * count) (length (before .work)) (search y);
       }
 
-  pub red-long : length (given .red) ≡ count
-  red-long = let y = known .1 in eqb-true (length (given .red)) count (search y)
+  pub red-long : length (before .three .red) ≡ count
+  red-long = let y = known .1 in eqb-true (length (before .three .red)) count (search y)
 
-  pub blue-long : length (given .blue) ≡ count
-  blue-long = let y = known .1 in eqb-true (length (given .blue)) count (search y)
+  pub blue-long : length (before .three .blue) ≡ count
+  blue-long = let y = known .1 in eqb-true (length (before .three .blue)) count (search y)
 
 -- ---- what it leaves
--- red and blue rewritten
-pub both-colours : (top w h l n threshold : ℕ) (mosaic green red blue : List ℕ) {red' blue' : List ℕ}
-    → red' ≡ listing w h (rewritten top n threshold w h (red-row l) (red-column l) (plane-of 0 w mosaic) (plane-of 0 w green) (plane-of 0 w red))
-    → blue' ≡ listing w h (rewritten top n threshold w h (1 - red-row l) (1 - red-column l) (plane-of 0 w mosaic) (plane-of 0 w green) (plane-of 0 w blue))
-    → planes red' green blue' ≡ rounds-lists top (frame w h l mosaic) n threshold (planes red green blue)
-unfolding rounds-lists rounds
-both-colours top w h l n threshold mosaic green red blue p q = λ i. planes (p i) green (q i)
+-- the colour of a frame, with ceiling `top`, whose rows and columns have these parities
+abbrev pub colour-in : Frame → Settings → ℕ → ℕ → ℕ → Colour
+colour-in f s top row column = record { width = f .width; height = f .height; row = row; column = column; top = top; threshold = s .threshold }
+
+module _ (f : Frame) (s : Settings) (before : Lent) {top n : ℕ} (eTop : top ≡ ceiling-of s) (eN : n ≡ rounds-of s) where
+  abbrev w : ℕ
+  w = f .width
+
+  abbrev h : ℕ
+  h = f .height
+
+  -- what a colour's plane is rewritten to, by so many rounds with that ceiling
+  abbrev new : ℕ → ℕ → ℕ → ℕ → List ℕ → List ℕ
+  new m t row column plane = listing w h (rewritten m (round-of (colour-in f s t row column) (f .samples) (before .three .green)) (plane-of 0 w plane))
+
+  -- red and blue rewritten, and the work buffer zeroed, whatever planes stood in it
+  pub all-rewritten : 8 * (w * h) ≤ length (before .work) → (p q : ℕ → ℕ → ℤ) {red blue : List ℕ} {first second last : List ℤ}
+      → red ≡ new n top (red-row (f .layout)) (red-column (f .layout)) (before .three .red) → first ≡ with-plane w h p (before .work)
+      → blue ≡ new n top (1 - red-row (f .layout)) (1 - red-column (f .layout)) (before .three .blue) → second ≡ with-plane w h q first → last ≡ zeroed w h second
+      → lent red (before .three .green) blue last ≡ with-rounds f s before
+  unfolding rounds-lists rounds
+  all-rewritten room p q {first = first} {last = last} reds e blues g z = λ i. lent
+      ((reds ∙ (λ j. new (eN j) (eTop j) (red-row (f .layout)) (red-column (f .layout)) (before .three .red))) i) (before .three .green)
+      ((blues ∙ (λ j. new (eN j) (eTop j) (1 - red-row (f .layout)) (1 - red-column (f .layout)) (before .three .blue))) i) (zero i)
+    where
+      zero : last ≡ zeroed w h (before .work)
+      zero =
+          z ∙ ap (zeroed w h) g ∙ zeroed-with-plane w h w h q first (omega arith) (omega (arith, room, ap length e, length-with-plane w h (before .work) (omega (arith, room)) p))
+          ∙ ap (zeroed w h) e ∙ zeroed-with-plane w h w h p (before .work) (omega arith) room
 
 -- Green too is what the operation `rounds` makes of the given planes, row by row.
-pub lists-are : (top : ℕ) (f : Frame) (n threshold : ℕ) (given : Planes (List ℕ)) → length (given .green) ≡ f .width * f .height
+pub lists-are : (f : Frame) (s : Settings) (given : Planes (List ℕ)) → length (given .green) ≡ f .width * f .height
     → let plane = plane-of {A = ℕ} 0 (f .width) in
-    rounds-lists top f n threshold given
-    ≡ listings (f .width) (f .height) (rounds top n threshold (f .width) (f .height) (f .layout) (λ r c. (plane (f .samples) r c, planes (plane (given .red) r c) (plane (given .green) r c) (plane (given .blue) r c))))
+    rounds-lists f s given
+    ≡ listings (f .width) (f .height) (rounds s (f .width) (f .height) (f .layout) (λ r c. (plane (f .samples) r c, planes (plane (given .red) r c) (plane (given .green) r c) (plane (given .blue) r c))))
 unfolding rounds-lists rounds
-lists-are top f n threshold given long = λ i.
-    planes (rounds-lists top f n threshold given .red) (sym (listing-plane-of 0 (f .width) (f .height) (given .green) long) i) (rounds-lists top f n threshold given .blue)
-
--- the work buffer zeroed, whatever planes stood in it
-pub all-zero : (w h : ℕ) (p q : ℕ → ℕ → ℤ) (work : List ℤ) → 8 * (w * h) ≤ length work → {first second last : List ℤ}
-    → first ≡ with-plane w h p work → second ≡ with-plane w h q first → last ≡ zeroed w h second → last ≡ zeroed w h work
-all-zero w h p q work room {first} e f g =
-    g ∙ ap (zeroed w h) f ∙ zeroed-with-plane w h w h q first (omega arith) (omega (arith, room, ap length e, length-with-plane w h work (omega (arith, room)) p))
-    ∙ ap (zeroed w h) e ∙ zeroed-with-plane w h w h p work (omega arith) room
+lists-are f s given long = λ i.
+    planes (rounds-lists f s given .red) (sym (listing-plane-of 0 (f .width) (f .height) (given .green) long) i) (rounds-lists f s given .blue)
 
 -- with no round no plane changes
-pub no-rounds : (top : ℕ) (f : Frame) (threshold : ℕ) (given : Planes (List ℕ)) → length (given .red) ≡ f .width * f .height → length (given .blue) ≡ f .width * f .height
-    → rounds-lists top f 0 threshold given ≡ given
+pub no-rounds : (f : Frame) (s : Settings) → rounds-of s ≡ 0 → (given : Planes (List ℕ)) → length (given .red) ≡ f .width * f .height → length (given .blue) ≡ f .width * f .height
+    → rounds-lists f s given ≡ given
 unfolding rounds-lists rounds
-no-rounds top f threshold given p q = λ i. planes (same (red-row (f .layout)) (red-column (f .layout)) (given .red) p i) (given .green) (same (1 - red-row (f .layout)) (1 - red-column (f .layout)) (given .blue) q i)
+no-rounds f s none given p q = λ i. planes (same (red-row (f .layout)) (red-column (f .layout)) (given .red) p i) (given .green) (same (1 - red-row (f .layout)) (1 - red-column (f .layout)) (given .blue) q i)
   where
-    same : (a b : ℕ) (plane : List ℕ) → length plane ≡ f .width * f .height
-        → listing (f .width) (f .height) (rewritten top 0 threshold (f .width) (f .height) a b (plane-of 0 (f .width) (f .samples)) (plane-of 0 (f .width) (given .green)) (plane-of 0 (f .width) plane)) ≡ plane
-    same a b plane e = listing-agree (f .width) (f .height) (λ r c hr hc. no-round top threshold (f .width) (f .height) a b _ _ (plane-of 0 (f .width) plane) r c) ∙ listing-plane-of 0 (f .width) (f .height) plane e
+    same : (row column : ℕ) (plane : List ℕ) → length plane ≡ f .width * f .height
+        → listing (f .width) (f .height) (rewritten (rounds-of s) (round-of (colour-in f s (ceiling-of s) row column) (f .samples) (given .green)) (plane-of 0 (f .width) plane)) ≡ plane
+    same row column plane e =
+        ap (λ (n : ℕ). listing (f .width) (f .height) (rewritten n (round-of (colour-in f s (ceiling-of s) row column) (f .samples) (given .green)) (plane-of 0 (f .width) plane))) none
+        ∙ listing-agree (f .width) (f .height) (λ r c hr hc. no-round _ (plane-of 0 (f .width) plane) r c) ∙ listing-plane-of 0 (f .width) (f .height) plane e
 
 -- refused and accepted
-module _ (f : Frame) (rounds threshold : ℕ) (given : Planes (List ℕ)) (work : List ℤ) (n : ℕ) (e : n ≡ ask (rounds-questions f rounds threshold given (length work))) where
-  pub rounds-no : (n ≡ 0 → ⊥) → RoundsResult f rounds threshold given work (Refused n) given work
+module _ (f : Frame) (s : Settings) (before : Lent) (n : ℕ) (e : n ≡ ask (rounds-questions f s before)) where
+  pub rounds-no : (n ≡ 0 → ⊥) → RoundsResult f s before (Refused n) before
   rounds-no z = record {
-    answer = answer-no number-of-answer (rounds-questions f rounds threshold given (length work)) Accepted (Refused n) e z;
-    leaves = record {
-      three-planes = left-no (rounds-questions f rounds threshold given (length work)) (rounds-lists ceiling f rounds threshold given) given n e z;
-      work-buffer = left-no (rounds-questions f rounds threshold given (length work)) (zeroed (f .width) (f .height) work) work n e z;
-    };
+    answer = answer-no number-of-answer (rounds-questions f s before) Accepted (Refused n) e z;
+    leaves = left-no (rounds-questions f s before) (with-rounds f s before) before n e z;
   }
 
-  pub rounds-yes : n ≡ 0 → {after : Planes (List ℕ)} {work-after : List ℤ} → after ≡ rounds-lists ceiling f rounds threshold given → work-after ≡ zeroed (f .width) (f .height) work
-      → RoundsResult f rounds threshold given work Accepted after work-after
-  rounds-yes z p q = record {
-    answer = answer-yes number-of-answer (rounds-questions f rounds threshold given (length work)) Accepted Accepted n e z refl refl;
-    leaves = record {
-      three-planes = p ∙ left-yes (rounds-questions f rounds threshold given (length work)) (rounds-lists ceiling f rounds threshold given) given n e z;
-      work-buffer = q ∙ left-yes (rounds-questions f rounds threshold given (length work)) (zeroed (f .width) (f .height) work) work n e z;
-    };
+  pub rounds-yes : n ≡ 0 → {after : Lent} → after ≡ with-rounds f s before → RoundsResult f s before Accepted after
+  rounds-yes z p = record {
+    answer = answer-yes number-of-answer (rounds-questions f s before) Accepted Accepted n e z refl refl;
+    leaves = p ∙ left-yes (rounds-questions f s before) (with-rounds f s before) before n e z;
   }

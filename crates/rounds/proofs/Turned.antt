@@ -4,6 +4,8 @@ use mathlib.Core.Bool.{Bool, true, false, cond, not, _&&_}
 use Prim.Native.Nat.{ℕ, zero, suc, _-_, _%_}
 use lib.Dec.{eqb}
 use lib.IntN.{ℤ, pos, natAbs}
+use Rattle.questions.specs.Settings.{ceiling-of, rounds-of}
+use Rattle.questions.specs.declared.Settings.{Settings}
 use Rattle.turns.specs.Layout.{red-row, red-column, on-red-row, on-red-column}
 use Rattle.turns.specs.Frames.{Planes, planes}
 use Rattle.turns.specs.Operations.{Operation}
@@ -13,7 +15,7 @@ use Rattle.turns.proofs.Commuting.{Commutes, same, composed, paired, pointwise,
 use Rattle.projection.specs.Projection.{projected}
 use Rattle.projection.proofs.Projection.{projected-commutes}
 use Rattle.work_buffer.proofs.Places.{other-parity}
-use Rattle.rounds.specs.Rounds.{limit-of, put-observed, round, after-rounds, rewritten, rounds}
+use Rattle.rounds.specs.Rounds.{Round, limit-of, put-observed, round, after-rounds, rewritten, rounds}
 use Rattle.rounds.proofs.Repeated.{round-projected}
 
 -- ---- a colour
@@ -51,56 +53,61 @@ blues = record {
 }
 
 -- ---- its rounds; a place has its mosaic sample, its green, and its value in the working plane
-module _ (top threshold : ℕ) (k : Coloured) where
+module _ (top : ℕ) (limit : ℤ) (k : Coloured) where
+  -- the colour's round in a frame of width w, height h and layout l
+  abbrev pub round-in : ℕ → ℕ → ℕ → (ℕ → ℕ → ℕ) → (ℕ → ℕ → ℕ) → Round
+  round-in w h l mosaic green = record { top = top; limit = limit; width = w; height = h; row = k .row l; column = k .column l; mosaic = mosaic; green = green }
+
   -- one
-  abbrev pub round-of : Operation (ℕ × ℕ × ℤ) ℤ
-  round-of w h l p = round top threshold w h (k .row l) (k .column l) (λ i j. p i j .0) (λ i j. p i j .1) (λ i j. p i j .2)
+  abbrev pub one-round : Operation (ℕ × ℕ × ℤ) ℤ
+  one-round w h l p = round (round-in w h l (λ i j. p i j .0) (λ i j. p i j .1)) (λ i j. p i j .2)
 
   -- the projection on green, beside the mosaic
   projected-of : Operation (ℕ × ℕ × ℤ) (ℕ × ℤ)
-  projected-of w h l p r c = (p r c .0, projected (limit-of threshold) (pos 0) (pos top) w h (λ i j. pos (p i j .1)) (λ i j. p i j .2) r c)
+  projected-of w h l p r c = (p r c .0, projected limit (pos 0) (pos top) w h (λ i j. pos (p i j .1)) (λ i j. p i j .2) r c)
 
-  pub round-commutes : Commutes same same round-of
+  pub round-commutes : Commutes same same one-round
   unfolding projected-of put-observed
   round-commutes =
       commutes-by {F = λ w h l p r c. cond (k .own (on-red-row l r) (on-red-column l c)) (pos (projected-of w h l p r c .0)) (projected-of w h l p r c .1)}
-      (λ w h l p r c. sym (round-projected top threshold w h (k .row l) (k .column l) (λ i j. p i j .0) (λ i j. p i j .1) (λ i j. p i j .2) r c ∙ (λ m. cond (k .is l r c m) (pos (p r c .0)) (projected-of w h l p r c .1))))
+      (λ w h l p r c. sym (round-projected (round-in w h l (λ i j. p i j .0) (λ i j. p i j .1)) (λ i j. p i j .2) r c ∙ (λ m. cond (k .is l r c m) (pos (p r c .0)) (projected-of w h l p r c .1))))
       (composed {F = projected-of}
       (paired {B = ℕ} {C = ℤ} (pointwise {A = ℕ × ℕ × ℤ} same same (λ x. x .0) (λ x. refl))
-      (composed (pointwise {A = ℕ × ℕ × ℤ} {B = ℤ × ℤ} same same (λ x. (pos (x .1), x .2)) (λ x. refl)) (projected-commutes (limit-of threshold) (pos 0) (pos top))))
+      (composed (pointwise {A = ℕ × ℕ × ℤ} {B = ℤ × ℤ} same same (λ x. (pos (x .1), x .2)) (λ x. refl)) (projected-commutes limit (pos 0) (pos top))))
       (by-parities {A = ℕ × ℤ} same same (λ a b x. cond (k .own a b) (pos (x .0)) (x .1)) (λ a b x. λ m. cond (k .exchange a b m) (pos (x .0)) (x .1))))
 
   -- n
-  abbrev pub rounds-of : ℕ → Operation (ℕ × ℕ × ℤ) ℤ
-  rounds-of n w h l p = after-rounds top n threshold w h (k .row l) (k .column l) (λ i j. p i j .0) (λ i j. p i j .1) (λ i j. p i j .2)
+  abbrev pub n-rounds : ℕ → Operation (ℕ × ℕ × ℤ) ℤ
+  n-rounds n w h l p = after-rounds n (round-in w h l (λ i j. p i j .0) (λ i j. p i j .1)) (λ i j. p i j .2)
 
-  pub after-rounds-commute : (n : ℕ) → Commutes same same (rounds-of n)
+  pub after-rounds-commute : (n : ℕ) → Commutes same same (n-rounds n)
   unfolding after-rounds
   after-rounds-commute zero = pointwise {A = ℕ × ℕ × ℤ} same same (λ x. x .2) (λ x. refl)
   after-rounds-commute (suc n) =
-      composed {F = λ w h l p r c. (p r c .0, p r c .1, rounds-of n w h l p r c)} {G = round-of}
-      (composed {B = (ℕ × ℕ) × ℤ} {F = λ w h l p r c. ((p r c .0, p r c .1), rounds-of n w h l p r c)}
+      composed {F = λ w h l p r c. (p r c .0, p r c .1, n-rounds n w h l p r c)} {G = one-round}
+      (composed {B = (ℕ × ℕ) × ℤ} {F = λ w h l p r c. ((p r c .0, p r c .1), n-rounds n w h l p r c)}
       (paired (pointwise {A = ℕ × ℕ × ℤ} {B = ℕ × ℕ} same same (λ x. (x .0, x .1)) (λ x. refl)) (after-rounds-commute n))
       (pointwise {B = ℕ × ℕ × ℤ} same same (λ x. (x .0 .0, x .0 .1, x .1)) (λ x. refl)))
       round-commutes
 
--- ---- the three planes
--- a colour's samples after n rounds, from what a place has of the mosaic, of green and of the colour
-rewritten-commutes : (top n threshold : ℕ) (k : Coloured) (plane : Planes ℕ → ℕ)
-    → Commutes {A = ℕ × Planes ℕ} same same (λ w h l p. rewritten top n threshold w h (k .row l) (k .column l) (λ i j. p i j .0) (λ i j. p i j .1 .green) (λ i j. plane (p i j .1)))
-unfolding rewritten
-rewritten-commutes top n threshold k plane =
-    composed (pointwise {A = ℕ × Planes ℕ} {B = ℕ × ℕ × ℤ} same same (λ x. (x .0, x .1 .green, pos (plane (x .1)))) (λ x. refl))
-    (composed (after-rounds-commute top threshold k n) (pointwise same same natAbs (λ z. refl)))
+  -- a colour's samples after n rounds, from what a place has of the mosaic, of green and of the colour
+  rewritten-commutes : (n : ℕ) (plane : Planes ℕ → ℕ)
+      → Commutes {A = ℕ × Planes ℕ} same same (λ w h l p. rewritten n (round-in w h l (λ i j. p i j .0) (λ i j. p i j .1 .green)) (λ i j. plane (p i j .1)))
+  unfolding rewritten
+  rewritten-commutes n plane =
+      composed (pointwise {A = ℕ × Planes ℕ} {B = ℕ × ℕ × ℤ} same same (λ x. (x .0, x .1 .green, pos (plane (x .1)))) (λ x. refl))
+      (composed (after-rounds-commute n) (pointwise same same natAbs (λ z. refl)))
 
+-- ---- the three planes
 -- the rounds see only what is inside, and commute with every turn
-pub rounds-commute : (top n threshold : ℕ) → Commutes same same (rounds top n threshold)
+pub rounds-commute : (s : Settings) → Commutes same same (rounds s)
 unfolding rounds reds blues
-rounds-commute top n threshold =
+rounds-commute s =
     composed {B = (ℕ × ℕ) × ℕ}
-    (paired (paired {B = ℕ} {C = ℕ} (rewritten-commutes top n threshold reds (λ x. x .red)) (pointwise {A = ℕ × Planes ℕ} same same (λ x. x .1 .green) (λ x. refl))) (rewritten-commutes top n threshold blues (λ x. x .blue)))
+    (paired (paired {B = ℕ} {C = ℕ} (rewritten-commutes (ceiling-of s) (limit-of (s .threshold)) reds (rounds-of s) (λ x. x .red)) (pointwise {A = ℕ × Planes ℕ} same same (λ x. x .1 .green) (λ x. refl)))
+    (rewritten-commutes (ceiling-of s) (limit-of (s .threshold)) blues (rounds-of s) (λ x. x .blue)))
     (pointwise same same (λ x. planes (x .0 .0) (x .0 .1) (x .1)) (λ x. refl))
 
 -- the rounds of a turned picture are the rounds' planes turned
-pub rounds-turned : (top n threshold t : ℕ) (p : Picture (ℕ × Planes ℕ)) → apply (rounds top n threshold) (turned t p) ≈ turned t (apply (rounds top n threshold) p)
-rounds-turned top n threshold = apply-turned (rounds-commute top n threshold)
+pub rounds-turned : (s : Settings) (t : ℕ) (p : Picture (ℕ × Planes ℕ)) → apply (rounds s) (turned t p) ≈ turned t (apply (rounds s) p)
+rounds-turned s = apply-turned (rounds-commute s)

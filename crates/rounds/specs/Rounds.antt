@@ -1,6 +1,8 @@
 -- Document 01, "Rounds". Assumes nothing.
 use Prim.Native.Nat.{ℕ, zero, suc, _*_, _-_}
 use lib.IntN.{ℤ, pos, natAbs}
+use Rattle.questions.specs.Settings.{ceiling-of, rounds-of}
+use Rattle.questions.specs.declared.Settings.{Settings}
 use Rattle.turns.specs.Layout.{red-row, red-column}
 use Rattle.turns.specs.Frames.{Planes, planes}
 use Rattle.turns.specs.Operations.{Operation}
@@ -9,7 +11,19 @@ use Rattle.projection.specs.Projection.{held-sum}
 use Rattle.work_buffer.specs.Places.{put-at-places}
 
 -- ---- a round of one colour's working plane, with green fixed
--- how far a value of bands 2, 3 and 4 may be from green's: 16·T
+-- what it is given beside that plane: the ceiling; how far a value of bands 2, 3 and 4 may be from green's; the frame's sizes; the parities
+-- of the colour's rows and columns; the mosaic and green
+pub record Round : Type 0 where
+  pub top : ℕ
+  pub limit : ℤ
+  pub width : ℕ
+  pub height : ℕ
+  pub row : ℕ
+  pub column : ℕ
+  pub mosaic : ℕ → ℕ → ℕ
+  pub green : ℕ → ℕ → ℕ
+
+-- the limit for threshold T: 16·T
 unfoldable pub limit-of : ℕ → ℤ
 limit-of threshold = pos (16 * threshold)
 
@@ -17,34 +31,39 @@ limit-of threshold = pos (16 * threshold)
 unfoldable pub kept : ℕ → ℤ → ℤ
 kept top s = rescaled (pos 0) (pos top) s
 
--- the observed samples put in: those of the colour whose rows have parity a and whose columns have parity b
-unfoldable pub put-observed : ℕ → ℕ → (ℕ → ℕ → ℕ) → (ℕ → ℕ → ℤ) → ℕ → ℕ → ℤ
-put-observed a b mosaic plane = put-at-places a b (λ r c. pos (mosaic r c)) plane
+-- the observed samples put in, at the colour's places
+unfoldable pub put-observed : Round → (ℕ → ℕ → ℤ) → ℕ → ℕ → ℤ
+put-observed k plane = put-at-places (k .row) (k .column) (λ r c. pos (k .mosaic r c)) plane
 
 -- split; in bands 2, 3, 4 hold the value within green's ± 16·T; join and bring back; then put the observed samples in
-unfoldable pub round : ℕ → ℕ → ℕ → ℕ → ℕ → ℕ → (ℕ → ℕ → ℕ) → (ℕ → ℕ → ℕ) → (ℕ → ℕ → ℤ) → ℕ → ℕ → ℤ
-round top threshold w h a b mosaic green own =
-    put-observed a b mosaic (λ r c. kept top (held-sum (limit-of threshold) 1 w h (λ i j. pos (green i j)) own r c))
+unfoldable pub round : Round → (ℕ → ℕ → ℤ) → ℕ → ℕ → ℤ
+round k own = put-observed k (λ r c. kept (k .top) (held-sum (k .limit) 1 (k .width) (k .height) (λ i j. pos (k .green i j)) own r c))
 
 -- n rounds, one after another
-unfoldable pub after-rounds : ℕ → ℕ → ℕ → ℕ → ℕ → ℕ → ℕ → (ℕ → ℕ → ℕ) → (ℕ → ℕ → ℕ) → (ℕ → ℕ → ℤ) → ℕ → ℕ → ℤ
-after-rounds top zero threshold w h a b mosaic green own = own
-after-rounds top (suc n) threshold w h a b mosaic green own = round top threshold w h a b mosaic green (after-rounds top n threshold w h a b mosaic green own)
+unfoldable pub after-rounds : ℕ → Round → (ℕ → ℕ → ℤ) → ℕ → ℕ → ℤ
+after-rounds zero k own = own
+after-rounds (suc n) k own = round k (after-rounds n k own)
 
 -- ---- the three planes
 -- a colour's plane of samples after n rounds
-unfoldable pub rewritten : ℕ → ℕ → ℕ → ℕ → ℕ → ℕ → ℕ → (ℕ → ℕ → ℕ) → (ℕ → ℕ → ℕ) → (ℕ → ℕ → ℕ) → ℕ → ℕ → ℕ
-rewritten top n threshold w h a b mosaic green plane r c = natAbs (after-rounds top n threshold w h a b mosaic green (λ i j. pos (plane i j)) r c)
+unfoldable pub rewritten : ℕ → Round → (ℕ → ℕ → ℕ) → ℕ → ℕ → ℕ
+rewritten n k plane r c = natAbs (after-rounds n k (λ i j. pos (plane i j)) r c)
 
 -- Red and blue are rewritten, and green stays. A place has its mosaic sample, and its samples in the three given planes.
-unfoldable pub rounds : ℕ → ℕ → ℕ → Operation (ℕ × Planes ℕ) (Planes ℕ)
-rounds top n threshold w h l p r c =
-    planes (rewritten top n threshold w h (red-row l) (red-column l) mosaic green (λ i j. p i j .1 .red) r c)
-    (green r c)
-    (rewritten top n threshold w h (1 - red-row l) (1 - red-column l) mosaic green (λ i j. p i j .1 .blue) r c)
+unfoldable pub rounds : Settings → Operation (ℕ × Planes ℕ) (Planes ℕ)
+rounds s w h l p r c =
+    planes (rewritten (rounds-of s) (colour (red-row l) (red-column l)) (λ i j. p i j .1 .red) r c)
+    (p r c .1 .green)
+    (rewritten (rounds-of s) (colour (1 - red-row l) (1 - red-column l)) (λ i j. p i j .1 .blue) r c)
   where
-    mosaic : ℕ → ℕ → ℕ
-    mosaic i j = p i j .0
-
-    green : ℕ → ℕ → ℕ
-    green i j = p i j .1 .green
+    colour : ℕ → ℕ → Round
+    colour row column = record {
+      top = ceiling-of s;
+      limit = limit-of (s .threshold);
+      width = w;
+      height = h;
+      row = row;
+      column = column;
+      mosaic = λ i j. p i j .0;
+      green = λ i j. p i j .1 .green;
+    }

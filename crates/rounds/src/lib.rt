@@ -1,16 +1,19 @@
 // Document 01's rounds.
+use questions::Settings;
 ghost use mathlib.Core.Path.{_≡_};
 ghost use Prim.Native.Nat.{_+_, _*_, _≤_, _<_};
 ghost use lib.IntN.{pos, natAbs};
 ghost use lib.ListN.{length};
 ghost use Rattle.integers.specs.Lists.{tabulate, overwrite};
-ghost use Rattle.questions.specs.Questions.{ceiling, ask};
+ghost use Rattle.questions.specs.Questions.{ask};
 ghost use Rattle.turns.specs.Frames.{frame, planes, listing, plane-of};
 ghost use Rattle.lines.specs.Lines.{value};
 ghost use Rattle.work_buffer.specs.Places.{place, sample, put, Seconds, SecondRows, Narrow, Workable};
 ghost use Rattle.work_buffer.specs.Buffer.{with-plane, zeroed};
+ghost use Rattle.work_buffer.specs.Lent.{lent};
 ghost use Rattle.rounds.specs.Rounds.{limit-of, round, after-rounds, rewritten};
-ghost use Rattle.rounds.specs.Calls.{planes-questions, rounds-questions, number-of-answer, rounds-lists, RoundsResult};
+ghost use Rattle.rounds.specs.Colours.{round-of};
+ghost use Rattle.rounds.specs.Calls.{planes-questions, rounds-questions, number-of-answer, with-rounds, RoundsResult};
 
 // What the rounds call answers.
 pub enum RoundsAnswer {
@@ -28,6 +31,17 @@ impl RoundsAnswer {
             RoundsAnswer::Refused(number) => number,
         }
     }
+}
+
+// The rounds of a colour, but for mosaic and green: the frame's sizes, the parities of the colour's rows and columns, the ceiling and the
+// threshold.
+struct Colour {
+    width: usize,
+    height: usize,
+    row: usize,
+    column: usize,
+    top: u16,
+    threshold: u16,
 }
 
 // A plane's samples into the work buffer's first numbers: the working plane.
@@ -86,82 +100,63 @@ fn limit_of(threshold: u16) -> i32
     16 * work_buffer::widened(threshold)
 }
 
-// A round of the working plane of the colour whose places have the parities a in row and b in column.
-fn round(
-    width: usize,
-    height: usize,
-    a: usize,
-    b: usize,
-    threshold: u16,
-    mosaic: &[u16],
-    green: &[u16],
-    work: &mut [i32],
-)
-    requires { ⌜ Workable width height (now mosaic) (now green) (length (now work)) × (a < 2) × (b < 2) × Narrow (now work) 0 (width * height) ⌝ }
-    ensures { λ _. ⌜ now (work .exit) ≡ with-plane width height (round ceiling threshold width height a b (plane-of 0 width (now (mosaic .entry))) (plane-of 0 width (now (green .entry))) (plane-of (pos 0) width (now (work .entry)))) (now (work .entry)) ⌝ }
+// A round of the colour's working plane.
+fn round(colour: Colour, mosaic: &[u16], green: &[u16], work: &mut [i32])
+    requires { ⌜ Workable (colour .width) (colour .height) (now mosaic) (now green) (length (now work)) × (colour .row < 2) × (colour .column < 2) × Narrow (now work) 0 (colour .width * colour .height) ⌝ }
+    ensures { λ _. ⌜ now (work .exit) ≡ with-plane (colour .width) (colour .height) (round (round-of colour (now (mosaic .entry)) (now (green .entry))) (plane-of (pos 0) (colour .width) (now (work .entry)))) (now (work .entry)) ⌝ }
 {
-    let limit = limit_of(threshold);
-    projection::project(work, 0, green, 0, width, 1, width, height, limit, 0, 4095);
-    let columns = (width + 1 - b) / 2;
-    let rows = (height + 1 - a) / 2;
-    observe(mosaic, a * width + b, 2 * width, columns, rows, work);
+    let width = colour.width;
+    let height = colour.height;
+    let limit = limit_of(colour.threshold);
+    let most = work_buffer::widened(colour.top);
+    projection::project(work, 0, green, 0, width, 1, width, height, limit, 0, most);
+    let first = colour.row * width + colour.column;
+    let columns = (width + 1 - colour.column) / 2;
+    let rows = (height + 1 - colour.row) / 2;
+    observe(mosaic, first, 2 * width, columns, rows, work);
 }
 
 // So many rounds of it.
-fn run(
-    width: usize,
-    height: usize,
-    a: usize,
-    b: usize,
-    rounds: u8,
-    threshold: u16,
-    mosaic: &[u16],
-    green: &[u16],
-    work: &mut [i32],
-)
-    requires { ⌜ Workable width height (now mosaic) (now green) (length (now work)) × (a < 2) × (b < 2) × Narrow (now work) 0 (width * height) ⌝ }
-    ensures { λ _. ⌜ now (work .exit) ≡ with-plane width height (after-rounds ceiling rounds threshold width height a b (plane-of 0 width (now (mosaic .entry))) (plane-of 0 width (now (green .entry))) (plane-of (pos 0) width (now (work .entry)))) (now (work .entry)) ⌝ }
+fn run(colour: Colour, rounds: u8, mosaic: &[u16], green: &[u16], work: &mut [i32])
+    requires { ⌜ Workable (colour .width) (colour .height) (now mosaic) (now green) (length (now work)) × (colour .row < 2) × (colour .column < 2) × Narrow (now work) 0 (colour .width * colour .height) ⌝ }
+    ensures { λ _. ⌜ now (work .exit) ≡ with-plane (colour .width) (colour .height) (after-rounds rounds (round-of colour (now (mosaic .entry)) (now (green .entry))) (plane-of (pos 0) (colour .width) (now (work .entry)))) (now (work .entry)) ⌝ }
 {
     let mut n = 0;
     while n < rounds {
-        round(width, height, a, b, threshold, mosaic, green, work);
+        round(colour, mosaic, green, work);
         n += 1;
     }
 }
 
 // A colour's plane: loaded, worked on through all rounds, and stored once.
 fn rewrite(
-    width: usize,
-    height: usize,
-    a: usize,
-    b: usize,
+    colour: Colour,
     rounds: u8,
-    threshold: u16,
     mosaic: &[u16],
     green: &[u16],
     plane: &mut [u16],
     work: &mut [i32],
 )
-    requires { ⌜ Workable width height (now mosaic) (now green) (length (now work)) × (a < 2) × (b < 2) × (length (now plane) ≡ width * height) ⌝ }
-    ensures { λ _. ⌜ now (plane .exit) ≡ listing width height (rewritten ceiling rounds threshold width height a b (plane-of 0 width (now (mosaic .entry))) (plane-of 0 width (now (green .entry))) (plane-of 0 width (now (plane .entry)))) ⌝ }
-    ensures { λ _. ⌜ now (work .exit) ≡ with-plane width height (after-rounds ceiling rounds threshold width height a b (plane-of 0 width (now (mosaic .entry))) (plane-of 0 width (now (green .entry))) (λ i j. pos (plane-of 0 width (now (plane .entry)) i j))) (now (work .entry)) ⌝ }
+    requires { ⌜ Workable (colour .width) (colour .height) (now mosaic) (now green) (length (now work)) × (colour .row < 2) × (colour .column < 2) × (length (now plane) ≡ colour .width * colour .height) ⌝ }
+    ensures { λ _. ⌜ now (plane .exit) ≡ listing (colour .width) (colour .height) (rewritten rounds (round-of colour (now (mosaic .entry)) (now (green .entry))) (plane-of 0 (colour .width) (now (plane .entry)))) ⌝ }
+    ensures { λ _. ⌜ now (work .exit) ≡ with-plane (colour .width) (colour .height) (after-rounds rounds (round-of colour (now (mosaic .entry)) (now (green .entry))) (λ i j. pos (plane-of 0 (colour .width) (now (plane .entry)) i j))) (now (work .entry)) ⌝ }
 {
     load(plane, work);
-    run(width, height, a, b, rounds, threshold, mosaic, green, work);
+    run(colour, rounds, mosaic, green, work);
     store(work, plane);
 }
 
-// Question 10 of the three planes.
-fn planes_refusal(red: &[u16], green: &[u16], blue: &[u16]) -> u32
-    ensures { λ r. ⌜ r ≡ ask (planes-questions (planes (now (red .entry)) (now (green .entry)) (now (blue .entry)))) ⌝ }
+// Question 10 of the three planes, where `top` is the ceiling.
+fn planes_refusal(top: u16, red: &[u16], green: &[u16], blue: &[u16]) -> u32
+    ensures { λ r. ⌜ r ≡ ask (planes-questions top (planes (now (red .entry)) (now (green .entry)) (now (blue .entry)))) ⌝ }
 {
-    if !questions::samples_within(4095, red) {
+    if !questions::samples_within(top, red) {
         return 10;
     }
-    if !questions::samples_within(4095, green) {
+    if !questions::samples_within(top, green) {
         return 10;
     }
-    if !questions::samples_within(4095, blue) {
+    if !questions::samples_within(top, blue) {
         return 10;
     }
     0
@@ -172,32 +167,30 @@ fn rounds_refusal(
     width: usize,
     height: usize,
     layout: u8,
-    rounds: u8,
-    threshold: u16,
+    settings: Settings,
     mosaic: &[u16],
     red: &[u16],
     green: &[u16],
     blue: &[u16],
-    room: usize,
+    work: &[i32],
 ) -> u32
-    ensures { λ r. ⌜ r ≡ ask (rounds-questions (frame width height layout (now (mosaic .entry))) rounds threshold (planes (now (red .entry)) (now (green .entry)) (now (blue .entry))) room) ⌝ }
+    ensures { λ r. ⌜ r ≡ ask (rounds-questions (frame width height layout (now (mosaic .entry))) settings (lent (now (red .entry)) (now (green .entry)) (now (blue .entry)) (now (work .entry)))) ⌝ }
 {
     let number = work_buffer::lent_refusal(
         width,
         height,
         layout,
-        rounds,
-        threshold,
+        settings,
         mosaic,
         red.len(),
         green.len(),
         blue.len(),
-        room,
+        work.len(),
     );
     if number != 0 {
         return number;
     }
-    planes_refusal(red, green, blue)
+    planes_refusal(settings.ceiling(), red, green, blue)
 }
 
 // Red, and then blue, whose places have the other parities; and the work buffer zeroed.
@@ -205,8 +198,7 @@ fn rewrite_colours(
     width: usize,
     height: usize,
     layout: u8,
-    rounds: u8,
-    threshold: u16,
+    settings: Settings,
     mosaic: &[u16],
     red: &mut [u16],
     green: &[u16],
@@ -215,37 +207,31 @@ fn rewrite_colours(
 )
     requires { ⌜ Workable width height (now mosaic) (now green) (length (now work)) ⌝ }
     requires { ⌜ (length (now red) ≡ width * height) × (length (now blue) ≡ width * height) ⌝ }
-    ensures { λ _. ⌜ planes (now (red .exit)) (now (green .entry)) (now (blue .exit)) ≡ rounds-lists ceiling (frame width height layout (now (mosaic .entry))) rounds threshold (planes (now (red .entry)) (now (green .entry)) (now (blue .entry))) ⌝ }
-    ensures { λ _. ⌜ now (work .exit) ≡ zeroed width height (now (work .entry)) ⌝ }
+    ensures { λ _. ⌜ lent (now (red .exit)) (now (green .entry)) (now (blue .exit)) (now (work .exit)) ≡ with-rounds (frame width height layout (now (mosaic .entry))) settings (lent (now (red .entry)) (now (green .entry)) (now (blue .entry)) (now (work .entry))) ⌝ }
 {
-    let red_row = (layout / 2 % 2) as usize;
-    let red_column = (layout % 2) as usize;
-    let blue_row = 1 - red_row;
-    let blue_column = 1 - red_column;
-    rewrite(
+    let top = settings.ceiling();
+    let rounds = settings.rounds_to_run();
+    let threshold = settings.threshold;
+    let row = (layout / 2 % 2) as usize;
+    let column = (layout % 2) as usize;
+    let reds = Colour {
         width,
         height,
-        red_row,
-        red_column,
-        rounds,
+        row,
+        column,
+        top,
         threshold,
-        mosaic,
-        green,
-        red,
-        work,
-    );
-    rewrite(
+    };
+    let blues = Colour {
         width,
         height,
-        blue_row,
-        blue_column,
-        rounds,
+        row: 1 - row,
+        column: 1 - column,
+        top,
         threshold,
-        mosaic,
-        green,
-        blue,
-        work,
-    );
+    };
+    rewrite(reds, rounds, mosaic, green, red, work);
+    rewrite(blues, rounds, mosaic, green, blue, work);
     work_buffer::zero(work, 8 * (width * height));
 }
 
@@ -255,27 +241,25 @@ pub fn rounds(
     width: usize,
     height: usize,
     layout: u8,
-    rounds: u8,
-    threshold: u16,
+    settings: Settings,
     mosaic: &[u16],
     red: &mut [u16],
     green: &[u16],
     blue: &mut [u16],
     work: &mut [i32],
 ) -> RoundsAnswer
-    ensures { λ r. ⌜ RoundsResult (frame width height layout (now (mosaic .entry))) rounds threshold (planes (now (red .entry)) (now (green .entry)) (now (blue .entry))) (now (work .entry)) r (planes (now (red .exit)) (now (green .entry)) (now (blue .exit))) (now (work .exit)) ⌝ }
+    ensures { λ r. ⌜ RoundsResult (frame width height layout (now (mosaic .entry))) settings (lent (now (red .entry)) (now (green .entry)) (now (blue .entry)) (now (work .entry))) r (lent (now (red .exit)) (now (green .entry)) (now (blue .exit)) (now (work .exit))) ⌝ }
 {
     let refusal = rounds_refusal(
         width,
         height,
         layout,
-        rounds,
-        threshold,
+        settings,
         mosaic,
         red,
         green,
         blue,
-        work.len(),
+        work,
     );
     if refusal != 0 {
         return RoundsAnswer::Refused(refusal);
@@ -284,8 +268,7 @@ pub fn rounds(
         width,
         height,
         layout,
-        rounds,
-        threshold,
+        settings,
         mosaic,
         red,
         green,

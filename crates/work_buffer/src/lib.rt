@@ -1,5 +1,6 @@
 // Inner: the work buffer that the update and the rounds are lent. Samples go in and out as signed numbers, and at last it is zeroed.
 // And the questions that the rounds and the finishing call share.
+use questions::Settings;
 ghost use mathlib.Core.Path.{_≡_};
 ghost use Prim.Native.Nat.{_≤_};
 ghost use lib.Dec.{T};
@@ -8,8 +9,8 @@ ghost use lib.ListN.{length};
 ghost use lib.Signed.{nonNeg};
 ghost use Rattle.integers.specs.Lists.{overwrite};
 ghost use Rattle.questions.specs.Questions.{ask};
-ghost use Rattle.turns.specs.Frames.{frame, planes};
-ghost use Rattle.work_buffer.specs.Lent.{buffer-questions, lent-questions};
+ghost use Rattle.turns.specs.Frames.{frame};
+ghost use Rattle.work_buffer.specs.Lent.{rooms, buffer-questions, lent-questions};
 
 // A sample as a signed number, and back.
 pub fn widened(x: u16) -> i32
@@ -37,8 +38,9 @@ pub fn zero(work: &mut [i32], n: usize)
     }
 }
 
-// Questions 6, 7, 8 and 9, where a plane has `count` samples.
+// Questions 6, 7, 8 and 9, where a plane has `count` samples and `top` is the ceiling.
 fn buffers_refusal(
+    top: u16,
     count: usize,
     mosaic: &[u16],
     red_room: usize,
@@ -47,7 +49,7 @@ fn buffers_refusal(
     room: usize,
 ) -> u32
     requires { ⌜ count ≤ 4194304 ⌝ }
-    ensures { λ r. ⌜ r ≡ ask (buffer-questions count (now (mosaic .entry)) (planes «red_room» «green_room» «blue_room») room) ⌝ }
+    ensures { λ r. ⌜ r ≡ ask (buffer-questions top count (now (mosaic .entry)) (rooms «red_room» «green_room» «blue_room» room)) ⌝ }
 {
     if mosaic.len() != count {
         return 6;
@@ -65,7 +67,7 @@ fn buffers_refusal(
     if room < needed {
         return 8;
     }
-    if !questions::samples_within(4095, mosaic) {
+    if !questions::samples_within(top, mosaic) {
         return 9;
     }
     0
@@ -76,21 +78,21 @@ pub fn lent_refusal(
     width: usize,
     height: usize,
     layout: u8,
-    rounds: u8,
-    threshold: u16,
+    settings: Settings,
     mosaic: &[u16],
     red_room: usize,
     green_room: usize,
     blue_room: usize,
     room: usize,
 ) -> u32
-    ensures { λ r. ⌜ r ≡ ask (lent-questions (frame width height layout (now (mosaic .entry))) rounds threshold (planes «red_room» «green_room» «blue_room») room) ⌝ }
+    ensures { λ r. ⌜ r ≡ ask (lent-questions (frame width height layout (now (mosaic .entry))) settings (rooms «red_room» «green_room» «blue_room» room)) ⌝ }
 {
-    let number = questions::frame(4095, width, height, layout, rounds, threshold);
+    let number = questions::frame(width, height, layout, settings);
     if number != 0 {
         return number;
     }
     buffers_refusal(
+        settings.ceiling(),
         width * height,
         mosaic,
         red_room,

@@ -13,14 +13,14 @@ returns c =
     let a = c .before .before .args in
     ask-first (shape-questions (a .width) (a .height) (a .layout)) _ _ (c .before .shape .ensures) (c .if1 .taken)
 
-settings-requires : tie.Need-settings-requires
-settings-requires c κs = search needs
+settings-refusal-requires : tie.Need-settings-refusal-requires
+settings-refusal-requires c κs = search needs
 
 returns-2 : tie.Need-returns-2
 returns-2 c =
     let a = c .before .before .before .args in
     let shape = shape-questions (a .width) (a .height) (a .layout) in
-    ask-later shape _ _ (all-yes shape tt _ (c .before .before .shape .ensures) (c .before .if1 .left)) (c .settings .ensures)
+    ask-later shape _ _ (all-yes shape tt _ (c .before .before .shape .ensures) (c .before .if1 .left)) (c .settings-refusal .ensures)
 
 pub frame-spec : {M : Type 1} → statement M
-frame-spec = tie.close (tie.spec shape-requires returns settings-requires returns-2)
+frame-spec = tie.close (tie.spec shape-requires returns settings-refusal-requires returns-2)

@@ -5,7 +5,6 @@ use native.Mathlib.Omega.{arith}
 use lib.ListN.{getD, length}
 use denote.Ref.{now}
 use borrow.Author.Needs.{needs}
-use Rattle.questions.specs.Questions.{ceiling}
 use Rattle.rounds.proofs.Working.{first-narrow, first-workable, last-narrow, last-laid, stored}
 use Rattle.rounds.proofs.rewrite.Statement.{statement}
 use Rattle.rounds.proofs.rewrite.Tie as tie
@@ -20,7 +19,7 @@ plane-small l k = omega (arith, l .before .before .before .slice-known .given k)
 mosaic-small : (l : tie.After-load) (k : ℕ) → getD (now (l .before .before .before .before .before .before .args .mosaic)) k 0 ≤ 65535
 mosaic-small l k = omega (arith, l .before .before .before .before .before .shared-slice-known .given k)
 
-room : (s : tie.Start) → s .args .width * s .args .height ≤ length (now (s .args .work))
+room : (s : tie.Start) → s .args .colour .width * s .args .colour .height ≤ length (now (s .args .work))
 room s = omega (arith, s .pre .0 .work)
 
 run-requires : tie.Need-run-requires
@@ -28,10 +27,10 @@ run-requires c κs =
     let l = c .before .before in
     let s = l .before .before .before .before .before .before in
     let a = s .args in (
-      first-workable ceiling (a .rounds) (a .threshold) (a .width) (a .height) (a .a) (a .b) (now (a .mosaic)) (now (a .green)) (now (a .plane)) (now (a .work)) (room s) (s .pre .3) (l .load .ensures) (s .pre .0),
+      first-workable (a .colour) (now (a .mosaic)) (now (a .green)) (now (a .plane)) (now (a .work)) (room s) (s .pre .3) (l .load .ensures) (s .pre .0),
       s .pre .1,
       s .pre .2,
-      first-narrow ceiling (a .rounds) (a .threshold) (a .width) (a .height) (a .a) (a .b) (now (a .mosaic)) (now (a .green)) (now (a .plane)) (now (a .work)) (room s) (s .pre .3) (l .load .ensures) (plane-small l),
+      first-narrow (a .colour) (now (a .mosaic)) (now (a .green)) (now (a .plane)) (now (a .work)) (room s) (s .pre .3) (l .load .ensures) (plane-small l),
     )
 
 store-requires : tie.Need-store-requires
@@ -40,7 +39,7 @@ store-requires c κs =
     let l = r .before .before .before in
     let s = l .before .before .before .before .before .before in
     let a = s .args in
-    last-narrow ceiling _ (a .threshold) (a .width) (a .height) (a .a) (a .b) (now (a .mosaic)) (now (a .green)) (now (a .plane)) (now (a .work)) (room s) (s .pre .3) (l .load .ensures) (r .run .ensures) (omega arith) (plane-small l) (mosaic-small l)
+    last-narrow (a .colour) (now (a .mosaic)) (now (a .green)) (now (a .plane)) (now (a .work)) (room s) (s .pre .3) (l .load .ensures) _ (r .run .ensures) (omega (arith, s .good .0)) (plane-small l) (mosaic-small l)
 
 same-length : tie.Need-same-length
 same-length c = search needs
@@ -54,8 +53,8 @@ returns c =
     let l = r .before .before .before in
     let s = l .before .before .before .before .before .before in
     let a = s .args in (
-      stored ceiling (a .rounds) (a .threshold) (a .width) (a .height) (a .a) (a .b) (now (a .mosaic)) (now (a .green)) (now (a .plane)) (now (a .work)) (room s) (s .pre .3) (l .load .ensures) (r .run .ensures) (c .before .before .store .ensures),
-      last-laid ceiling (a .rounds) (a .threshold) (a .width) (a .height) (a .a) (a .b) (now (a .mosaic)) (now (a .green)) (now (a .plane)) (now (a .work)) (room s) (s .pre .3) (l .load .ensures) (r .run .ensures),
+      stored (a .colour) (now (a .mosaic)) (now (a .green)) (now (a .plane)) (now (a .work)) (room s) (s .pre .3) (l .load .ensures) _ (r .run .ensures) (c .before .before .store .ensures),
+      last-laid (a .colour) (now (a .mosaic)) (now (a .green)) (now (a .plane)) (now (a .work)) (room s) (s .pre .3) (l .load .ensures) _ (r .run .ensures),
     )
 
 pub rewrite-spec : {M : Type 1} → statement M

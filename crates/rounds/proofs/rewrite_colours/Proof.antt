@@ -4,23 +4,31 @@ use native.Mathlib.Omega.{arith}
 use denote.Ref.{now}
 use borrow.Author.Needs.{needs}
 use Rattle.questions.proofs.Asking.{area-bound}
+use Rattle.turns.specs.Frames.{frame}
 use Rattle.turns.specs.Layout.{red-row, red-column}
+use Rattle.work_buffer.specs.Lent.{lent}
 use Rattle.work_buffer.specs.Buffer.{zeroed}
-use Rattle.rounds.proofs.Calls.{both-colours, all-zero}
+use Rattle.rounds.proofs.Calls.{all-rewritten}
 use Rattle.rounds.proofs.rewrite_colours.Statement.{statement}
 use Rattle.rounds.proofs.rewrite_colours.Tie as tie
 
-cast-red-row : tie.Need-cast-red-row
-cast-red-row c = search needs
+ceiling-requires : tie.Need-ceiling-requires
+ceiling-requires c κs = search needs
 
-cast-red-column : tie.Need-cast-red-column
-cast-red-column c = search needs
+rounds-to-run-requires : tie.Need-rounds-to-run-requires
+rounds-to-run-requires c κs = search needs
 
-sub-blue-row : tie.Need-sub-blue-row
-sub-blue-row c = search needs
+cast-row : tie.Need-cast-row
+cast-row c = search needs
 
-sub-blue-column : tie.Need-sub-blue-column
-sub-blue-column c = search needs
+cast-column : tie.Need-cast-column
+cast-column c = search needs
+
+sub-zero : tie.Need-sub-zero
+sub-zero c = search needs
+
+sub-zero-2 : tie.Need-sub-zero-2
+sub-zero-2 c = search needs
 
 rewrite-requires : tie.Need-rewrite-requires
 rewrite-requires c κs = search needs
@@ -32,7 +40,7 @@ mul-zero : tie.Need-mul-zero
 mul-zero c = search needs
 
 mul-zero-2 : tie.Need-mul-zero-2
-mul-zero-2 c = let u = c .before .before .before .before .before .before .before .before .before .before .before .before .before .before .before .before .before .pre .0 in record { fits = omega (arith, area-bound (u .width-to) (u .height-to)) }
+mul-zero-2 c = search needs
 
 zero-requires : tie.Need-zero-requires
 zero-requires c κs = search needs
@@ -51,20 +59,22 @@ unfolding red-row red-column zeroed
 returns c =
     let second = c .before .before .before .before .before .before in
     let first = second .before .before .before .before .before .before in
-    let s = first .before .before .before .before .before .before .before in
-    let a = s .args in (
-      both-colours _ (a .width) (a .height) (a .layout) (a .rounds) (a .threshold) (now (a .mosaic)) (now (a .green)) (now (a .red)) (now (a .blue)) (first .rewrite .ensures .0) (second .rewrite2 .ensures .0),
-      all-zero (a .width) (a .height) _ _ (now (a .work)) (s .pre .0 .work) (first .rewrite .ensures .1) (second .rewrite2 .ensures .1) (c .before .zero .ensures),
-    )
+    let s = first .before .before .before .before .before .before .before .before .before in
+    let a = s .args in
+    all-rewritten (frame (a .width) (a .height) (a .layout) (now (a .mosaic))) (a .settings) (lent (now (a .red)) (now (a .green)) (now (a .blue)) (now (a .work)))
+    (first .before .before .before .before .ceiling .ensures) (first .before .before .before .rounds-to-run .ensures) (s .pre .0 .work) _ _
+    (first .rewrite .ensures .0) (first .rewrite .ensures .1) (second .rewrite2 .ensures .0) (second .rewrite2 .ensures .1) (c .before .zero .ensures)
 
 pub rewrite-colours-spec : {M : Type 1} → statement M
 rewrite-colours-spec =
     tie.close
     (tie.spec
-    cast-red-row
-    cast-red-column
-    sub-blue-row
-    sub-blue-column
+    ceiling-requires
+    rounds-to-run-requires
+    cast-row
+    cast-column
+    sub-zero
+    sub-zero-2
     rewrite-requires
     rewrite-requires-2
     mul-zero

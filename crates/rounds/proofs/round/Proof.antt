@@ -11,7 +11,6 @@ use mir.Val.{toZ, ofZ}
 use borrow.Author.Needs.{needs}
 use Rattle.integers.specs.Lists.{overwrite}
 use Rattle.integers.proofs.Bounds.{read-is}
-use Rattle.questions.specs.Questions.{ceiling}
 use Rattle.filters.specs.Bank.{Distance}
 use Rattle.projection.specs.Projection.{projected}
 use Rattle.projection.specs.Planes.{own-plane, guide-plane}
@@ -22,21 +21,44 @@ use Rattle.rounds.proofs.Working.{projectable, round-laid}
 use Rattle.rounds.proofs.round.Statement.{statement}
 use Rattle.rounds.proofs.round.Tie as tie
 
+-- where the function starts, from the places that are used
+abbrev start : tie.After-widened → tie.Start
+start c = c .before .before .before .before
+
+abbrev projecting : tie.After-struct-known → tie.After-widened
+projecting c = c .before .before .before .before
+
 limit-of-requires : tie.Need-limit-of-requires
 limit-of-requires c κs = search needs
 
--- the limit, as the machine reads it
-limit : (c : tie.After-limit-of) → toZ w32 (ofZ w32 (c .limit-of .result)) ≡ limit-of (c .before .before .before .args .threshold)
-limit c = read-is w32 (c .limit-of .ok) (c .limit-of .ensures)
+widened-requires : tie.Need-widened-requires
+widened-requires c κs = search needs
 
-limit-distance : (c : tie.After-limit-of) → Distance (toZ w32 (ofZ w32 (c .limit-of .result)))
+-- the limit and the ceiling, as the machine reads them
+limit : (c : tie.After-widened) → toZ w32 (ofZ w32 (c .before .limit-of .result)) ≡ limit-of (start c .args .colour .threshold)
+limit c = read-is w32 (c .before .limit-of .ok) (c .before .limit-of .ensures)
+
+most : (c : tie.After-widened) → toZ w32 (ofZ w32 (c .widened .result)) ≡ pos (start c .args .colour .top)
+most c = read-is w32 (c .widened .ok) (c .widened .ensures)
+
+limit-distance : (c : tie.After-widened) → Distance (toZ w32 (ofZ w32 (c .before .limit-of .result)))
 limit-distance c = subst Distance (sym (limit c)) (unfold limit-of in (record { sign = tt; small = omega arith }))
 
 project-requires : tie.Need-project-requires
 project-requires c κs =
-    let s = c .before .before .before .before in
+    let s = start (c .before) in
     let a = s .args in
-    (limit-distance (c .before), projectable (a .width) (a .height) (now (a .mosaic)) (now (a .green)) (now (a .work)) (s .pre .0) (s .pre .3) (λ k. omega (arith, c .before .before .shared-slice-known2 .given k)))
+    (limit-distance (c .before), projectable (a .colour .width) (a .colour .height) (now (a .mosaic)) (now (a .green)) (now (a .work)) (s .pre .0) (s .pre .3) (λ k. omega (arith, c .before .before .before .shared-slice-known2 .given k)))
+
+-- the colour's first place is near
+near : (s : tie.Start) → s .args .colour .row * s .args .colour .width ≤ 2 * s .args .colour .width
+near s = mul-le-mul-right (s .args .colour .width) (let h = s .pre .1 in omega arith)
+
+mul-first : tie.Need-mul-first
+mul-first c = let s = start (projecting c) in record { fits = omega (arith, near s, s .pre .0 .width-to) }
+
+add-first : tie.Need-add-first
+add-first c = let s = start (projecting (c .before)) in record { fits = omega (arith, near s, s .pre .0 .width-to, s .pre .2) }
 
 add-columns : tie.Need-add-columns
 add-columns c = search needs
@@ -50,26 +72,16 @@ add-rows c = search needs
 sub-rows : tie.Need-sub-rows
 sub-rows c = search needs
 
--- the colour's first place is near
-near : (s : tie.Start) → s .args .a * s .args .width ≤ 2 * s .args .width
-near s = mul-le-mul-right (s .args .width) (let h = s .pre .1 in omega arith)
-
 mul-observe : tie.Need-mul-observe
-mul-observe c = let s = c .before .before .before .before .before .before in record { fits = omega (arith, near s, s .pre .0 .width-to) }
-
-add-observe : tie.Need-add-observe
-add-observe c = let s = c .before .before .before .before .before .before in record { fits = omega (arith, near s, s .pre .0 .width-to, s .pre .2) }
-
-mul-observe-2 : tie.Need-mul-observe-2
-mul-observe-2 c = search needs
+mul-observe c = search needs
 
 observe-requires : tie.Need-observe-requires
 unfolding places
 observe-requires c κs =
-    let s = c .before .before .before .before .before .before .before in
+    let s = start (projecting (c .before .before .before .before)) in
     let a = s .args in
     let u = s .pre .0 in
-    (small-rows (a .width) (a .height) (a .a) (a .b) (s .pre .1) (s .pre .2) (now (a .mosaic)) (u .samples) (u .width-from) _ _ (omega arith) (omega arith), omega (arith, u .samples, u .work, c .before .before .project .kept))
+    (small-rows (a .colour .width) (a .colour .height) (a .colour .row) (a .colour .column) (s .pre .1) (s .pre .2) (now (a .mosaic)) (u .samples) (u .width-from) _ _ (omega arith) (omega arith), omega (arith, u .samples, u .work, c .before .before .before .before .before .before .project .kept))
 
 same-length : tie.Need-same-length
 same-length c = search needs
@@ -77,12 +89,14 @@ same-length c = search needs
 returns : tie.Need-returns
 unfolding places
 returns c =
-    let p = c .before .before .before .before in
-    let s = c .before .before .before .before .before .before .before .before .before in
+    let known = c .before .before .before .before .before .before in
+    let p = known .before .before in
+    let m = projecting known in
+    let s = start m in
     let a = s .args in
-    let u = s .pre .0 in
-    round-laid ceiling (a .threshold) (a .width) (a .height) (a .a) (a .b) (now (a .mosaic)) (now (a .green)) (now (a .work)) (omega (arith, u .work)) (s .pre .1) (s .pre .2)
-    (p .project .ensures ∙ (λ j. overwrite (now (a .work)) 0 (a .width * a .height) (λ k. projected (limit (p .before .before) j) (pos 0) (pos ceiling) (a .width) (a .height) (guide-plane (now (a .green)) 0 (a .width) 1) (own-plane (now (a .work)) 0 (a .width)) (k / a .width) (k % a .width))))
+    let k = a .colour in
+    round-laid k (now (a .mosaic)) (now (a .green)) (now (a .work)) (omega (arith, s .pre .0 .work)) (s .pre .1) (s .pre .2)
+    (p .project .ensures ∙ (λ j. overwrite (now (a .work)) 0 (k .width * k .height) (λ i. projected (limit m j) (pos 0) (most m j) (k .width) (k .height) (guide-plane (now (a .green)) 0 (k .width) 1) (own-plane (now (a .work)) 0 (k .width)) (i / k .width) (i % k .width))))
     (c .before .observe .ensures)
 
 pub round-spec : {M : Type 1} → statement M
@@ -90,14 +104,15 @@ round-spec =
     tie.close
     (tie.spec
     limit-of-requires
+    widened-requires
     project-requires
+    mul-first
+    add-first
     add-columns
     sub-columns
     add-rows
     sub-rows
     mul-observe
-    add-observe
-    mul-observe-2
     observe-requires
     same-length
     returns)

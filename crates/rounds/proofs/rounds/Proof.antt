@@ -1,21 +1,23 @@
 -- `rounds::rounds` meets its contract: one check, one branch, and then the rounds.
 -- Assumes nothing.
-use mathlib.Core.List.{List}
-use Prim.Native.Nat.{ℕ}
 use native.Mathlib.Omega.{arith}
 use denote.Ref.{now}
 use borrow.Author.Needs.{needs}
-use Rattle.turns.specs.Frames.{Frame, frame, Planes, planes}
+use Rattle.turns.specs.Frames.{Frame, frame}
+use Rattle.work_buffer.specs.Lent.{Lent, lent}
 use Rattle.rounds.proofs.Calls.{workable, red-long, blue-long, rounds-no, rounds-yes}
 use Rattle.rounds.proofs.rounds.Statement.{statement}
 use Rattle.rounds.proofs.rounds.Tie as tie
 
--- what was given
-abbrev Given : tie.Start → Frame
-Given s = let a = s .args in frame (a .width) (a .height) (a .layout) (now (a .mosaic))
+-- where the function starts, from the check on; and what was given
+abbrev start : tie.After-rounds-refusal → tie.Start
+start t = t .before .before .before .before .before .before .before .before
 
-abbrev Three : tie.Start → Planes (List ℕ)
-Three s = let a = s .args in planes (now (a .red)) (now (a .green)) (now (a .blue))
+abbrev Given : tie.After-rounds-refusal → Frame
+Given t = let a = start t .args in frame (a .width) (a .height) (a .layout) (now (a .mosaic))
+
+abbrev Before : tie.After-rounds-refusal → Lent
+Before t = let a = start t .args in lent (now (a .red)) (now (a .green)) (now (a .blue)) (now (a .work))
 
 rounds-refusal-requires : tie.Need-rounds-refusal-requires
 rounds-refusal-requires c κs = search needs
@@ -26,23 +28,23 @@ same-length c = search needs
 same-length-2 : tie.Need-same-length-2
 same-length-2 c = search needs
 
+same-length-3 : tie.Need-same-length-3
+same-length-3 c = search needs
+
 returns : tie.Need-returns
 returns c =
-    let t = c .before .rounds-refusal in
-    let s = c .before .before .before .before .before .before .before .before in
-    rounds-no (Given s) (s .args .rounds) (s .args .threshold) (Three s) (now (s .args .work)) (t .result) (t .ensures) (λ z. omega (arith, z, c .if1 .taken))
+    let t = c .before in
+    rounds-no (Given t) (start t .args .settings) (Before t) (t .rounds-refusal .result) (t .rounds-refusal .ensures) (λ z. omega (arith, z, c .if1 .taken))
 
 rewrite-colours-requires : tie.Need-rewrite-colours-requires
 rewrite-colours-requires c κs =
     let e = c .before .before .before in
-    let t = e .before .rounds-refusal in
-    let s = e .before .before .before .before .before .before .before .before in (
-      workable (Given s) (s .args .rounds) (s .args .threshold) (Three s) _ (t .result) (t .ensures) (omega (arith, e .if1 .left)),
-      (red-long (Given s) (s .args .rounds) (s .args .threshold) (Three s) _ (t .result) (t .ensures) (omega (arith, e .if1 .left)), blue-long (Given s) (s .args .rounds) (s .args .threshold) (Three s) _ (t .result) (t .ensures) (omega (arith, e .if1 .left))),
+    let t = e .before in
+    let s = start t .args .settings in
+    let r = t .rounds-refusal in (
+      workable (Given t) s (Before t) (r .result) (r .ensures) (omega (arith, e .if1 .left)),
+      (red-long (Given t) s (Before t) (r .result) (r .ensures) (omega (arith, e .if1 .left)), blue-long (Given t) s (Before t) (r .result) (r .ensures) (omega (arith, e .if1 .left))),
     )
-
-same-length-3 : tie.Need-same-length-3
-same-length-3 c = search needs
 
 same-length-4 : tie.Need-same-length-4
 same-length-4 c = search needs
@@ -50,13 +52,15 @@ same-length-4 c = search needs
 same-length-5 : tie.Need-same-length-5
 same-length-5 c = search needs
 
+same-length-6 : tie.Need-same-length-6
+same-length-6 c = search needs
+
 returns-2 : tie.Need-returns-2
 returns-2 c =
     let done = c .before .before .before .before .before in
     let e = done .before .before .before .before in
-    let t = e .before .rounds-refusal in
-    let s = e .before .before .before .before .before .before .before .before in
-    rounds-yes (Given s) (s .args .rounds) (s .args .threshold) (Three s) (now (s .args .work)) (t .result) (t .ensures) (omega (arith, e .if1 .left)) (done .rewrite-colours .ensures .0) (done .rewrite-colours .ensures .1)
+    let t = e .before in
+    rounds-yes (Given t) (start t .args .settings) (Before t) (t .rounds-refusal .result) (t .rounds-refusal .ensures) (omega (arith, e .if1 .left)) (done .rewrite-colours .ensures)
 
 pub rounds-spec : {M : Type 1} → statement M
 rounds-spec =
@@ -65,9 +69,10 @@ rounds-spec =
     rounds-refusal-requires
     same-length
     same-length-2
+    same-length-3
     returns
     rewrite-colours-requires
-    same-length-3
     same-length-4
     same-length-5
+    same-length-6
     returns-2)

@@ -6,45 +6,47 @@ use native.Mathlib.Omega.{arith}
 use lib.IntN.{ℤ, pos}
 use lib.ListN.{length}
 use denote.Ref.{now}
-use Rattle.questions.specs.Questions.{ceiling}
 use Rattle.turns.specs.Frames.{plane-of}
 use Rattle.work_buffer.specs.Places.{Workable}
 use Rattle.work_buffer.specs.Buffer.{with-plane}
 use Rattle.rounds.specs.Rounds.{after-rounds}
+use Rattle.rounds.specs.Colours.{round-of}
 use Rattle.rounds.proofs.Working.{none-laid, more-laid, after-narrow}
 use Rattle.rounds.proofs.run.Statement.{statement}
 use Rattle.rounds.proofs.run.Tie as tie
 
 abbrev Inv-loop : tie.InvT-loop
-Inv-loop width height a b rounds threshold mosaic green work₀ n₀ work n =
-    (n ≤ rounds) × (work ≡ with-plane width height (after-rounds ceiling n threshold width height a b (plane-of 0 width mosaic) (plane-of 0 width green) (plane-of (pos 0) width work₀)) work₀) × (length work ≡ length work₀)
+Inv-loop colour rounds mosaic green work₀ n₀ work n =
+    (n ≤ rounds)
+    × (work ≡ with-plane (colour .width) (colour .height) (after-rounds n (round-of colour mosaic green) (plane-of (pos 0) (colour .width) work₀)) work₀)
+    × (length work ≡ length work₀)
 
 abbrev μ-loop : tie.MeasureT-loop
-μ-loop width height a b rounds threshold mosaic green work₀ n₀ work n = rounds - n
+μ-loop colour rounds mosaic green work₀ n₀ work n = rounds - n
 
 -- the working plane after n rounds
 abbrev After : tie.Start Inv-loop μ-loop → ℕ → ℕ → ℕ → ℤ
-After s n = let a = s .args in after-rounds ceiling n (a .threshold) (a .width) (a .height) (a .a) (a .b) (plane-of 0 (a .width) (now (a .mosaic))) (plane-of 0 (a .width) (now (a .green))) (plane-of (pos 0) (a .width) (now (a .work)))
+After s n = let a = s .args in after-rounds n (round-of (a .colour) (now (a .mosaic)) (now (a .green))) (plane-of (pos 0) (a .colour .width) (now (a .work)))
 
 -- it has room
-room : (s : tie.Start Inv-loop μ-loop) → s .args .width * s .args .height ≤ length (now (s .args .work))
+room : (s : tie.Start Inv-loop μ-loop) → s .args .colour .width * s .args .colour .height ≤ length (now (s .args .work))
 room s = omega (arith, s .pre .0 .work)
 
 loop-holds : tie.Need-loop-holds Inv-loop μ-loop
 loop-holds c =
     let s = c .before .before in
     let a = s .args in
-    (omega arith, none-laid ceiling (a .threshold) (a .width) (a .height) (a .a) (a .b) (now (a .mosaic)) (now (a .green)) (now (a .work)) (room s), refl)
+    (omega arith, none-laid (a .colour) (now (a .mosaic)) (now (a .green)) (now (a .work)) (room s), refl)
 
 round-requires : tie.Need-round-requires Inv-loop μ-loop
 round-requires c κs =
     let l = c .before .before in
     let s = l .before .before .before in
     let a = s .args in (
-      subst (Workable (a .width) (a .height) (now (a .mosaic)) (now (a .green))) (sym (l .loop .inv .2)) (s .pre .0),
+      subst (Workable (a .colour .width) (a .colour .height) (now (a .mosaic)) (now (a .green))) (sym (l .loop .inv .2)) (s .pre .0),
       s .pre .1,
       s .pre .2,
-      after-narrow ceiling (a .threshold) (a .width) (a .height) (a .a) (a .b) (now (a .mosaic)) (now (a .green)) (now (a .work)) (room s) (l .loop .n) (l .loop .inv .1) (s .pre .3) (omega arith) (λ k. omega (arith, l .before .before .shared-slice-known .given k)),
+      after-narrow (a .colour) (now (a .mosaic)) (now (a .green)) (now (a .work)) (room s) (l .loop .n) (l .loop .inv .1) (s .pre .3) (omega (arith, s .good .0)) (λ k. omega (arith, l .before .before .shared-slice-known .given k)),
     )
 
 add-n : tie.Need-add-n Inv-loop μ-loop
@@ -59,7 +61,7 @@ loop-again c =
     let s = l .before .before .before in
     let a = s .args in (
       omega arith,
-      more-laid ceiling (a .threshold) (a .width) (a .height) (a .a) (a .b) (now (a .mosaic)) (now (a .green)) (now (a .work)) (room s) (l .loop .n) (l .loop .inv .1) (c .before .round .ensures),
+      more-laid (a .colour) (now (a .mosaic)) (now (a .green)) (now (a .work)) (room s) (l .loop .n) (l .loop .inv .1) (c .before .round .ensures),
       omega arith,
     )
 
@@ -72,7 +74,7 @@ returns c =
     let s = l .before .before .before in
     let a = s .args in
     let all : l .loop .n ≡ a .rounds = omega arith in
-    l .loop .inv .1 ∙ ap (λ (n : ℕ). with-plane (a .width) (a .height) (After s n) (now (a .work))) all
+    l .loop .inv .1 ∙ ap (λ (n : ℕ). with-plane (a .colour .width) (a .colour .height) (After s n) (now (a .work))) all
 
 pub run-spec : {M : Type 1} → statement M
 run-spec =

@@ -1,9 +1,13 @@
 -- `work_buffer::lent_refusal` meets its contract: 1 to 5, and then 6 to 9.
 -- Assumes nothing.
+use mathlib.Core.Path.{_∙_, ap}
+use Prim.Native.Nat.{ℕ, _*_}
 use native.Mathlib.Omega.{arith}
+use denote.Ref.{now}
 use borrow.Author.Needs.{needs}
-use Rattle.questions.specs.Questions.{ceiling, shape-questions, settings-questions, frame-questions}
+use Rattle.questions.specs.Questions.{ask, shape-questions, settings-questions, frame-questions}
 use Rattle.questions.proofs.Asking.{ask-first, ask-later, AllYes, all-yes, all-yes-split, Shape, shape-is}
+use Rattle.work_buffer.specs.Lent.{rooms, buffer-questions}
 use Rattle.work_buffer.proofs.lent_refusal.Statement.{statement}
 use Rattle.work_buffer.proofs.lent_refusal.Tie as tie
 
@@ -13,32 +17,36 @@ frame-requires c κs = search needs
 returns : tie.Need-returns
 returns c =
     let a = c .before .before .before .args in
-    ask-first (frame-questions ceiling (a .width) (a .height) (a .layout) (a .rounds) (a .threshold)) _ _ (c .before .frame .ensures) (c .if1 .taken)
+    ask-first (frame-questions (a .width) (a .height) (a .layout) (a .settings)) _ _ (c .before .frame .ensures) (c .if1 .taken)
 
 -- where they are answered yes
 known : (c : tie.Else1)
-    → let a = c .before .before .before .args in AllYes (frame-questions ceiling (a .width) (a .height) (a .layout) (a .rounds) (a .threshold))
+    → let a = c .before .before .before .args in AllYes (frame-questions (a .width) (a .height) (a .layout) (a .settings))
 known c =
     let a = c .before .before .before .args in
-    all-yes (frame-questions ceiling (a .width) (a .height) (a .layout) (a .rounds) (a .threshold)) tt _ (c .before .frame .ensures) (c .if1 .left)
+    all-yes (frame-questions (a .width) (a .height) (a .layout) (a .settings)) tt _ (c .before .frame .ensures) (c .if1 .left)
 
 shape : (c : tie.Else1) → let a = c .before .before .before .args in Shape (a .width) (a .height) (a .layout)
 shape c =
     let a = c .before .before .before .args in
-    shape-is (a .width) (a .height) (a .layout) (all-yes-split (shape-questions (a .width) (a .height) (a .layout)) (settings-questions ceiling (a .rounds) (a .threshold)) (known c) .0)
+    shape-is (a .width) (a .height) (a .layout) (all-yes-split (shape-questions (a .width) (a .height) (a .layout)) (settings-questions (a .settings)) (known c) .0)
+
+ceiling-requires : tie.Need-ceiling-requires
+ceiling-requires c κs = search needs
 
 mul-buffers-refusal : tie.Need-mul-buffers-refusal
-mul-buffers-refusal c = record { fits = omega (arith, shape c .area) }
+mul-buffers-refusal c = record { fits = omega (arith, shape (c .before) .area) }
 
 buffers-refusal-requires : tie.Need-buffers-refusal-requires
-buffers-refusal-requires c κs = shape c .area
+buffers-refusal-requires c κs = shape (c .before) .area
 
 returns-2 : tie.Need-returns-2
 returns-2 c =
-    let a = c .before .before .before .before .args in
-    ask-later (frame-questions ceiling (a .width) (a .height) (a .layout) (a .rounds) (a .threshold)) _ _ (known (c .before)) (c .buffers-refusal .ensures)
+    let a = c .before .before .before .before .before .args in
+    ask-later (frame-questions (a .width) (a .height) (a .layout) (a .settings)) _ _ (known (c .before .before))
+    (c .buffers-refusal .ensures ∙ ap (λ (top : ℕ). ask (buffer-questions top (a .width * a .height) (now (a .mosaic)) (rooms (a .red-room) (a .green-room) (a .blue-room) (a .room)))) (c .before .ceiling .ensures))
 
 pub lent-refusal-spec : {M : Type 1} → statement M
 lent-refusal-spec =
     tie.close
-    (tie.spec frame-requires returns mul-buffers-refusal buffers-refusal-requires returns-2)
+    (tie.spec frame-requires returns ceiling-requires mul-buffers-refusal buffers-refusal-requires returns-2)
