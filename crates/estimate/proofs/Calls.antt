@@ -5,7 +5,7 @@ use Prim.Native.Nat.{ℕ, _*_}
 use native.Mathlib.Omega.{arith}
 use lib.ListN.{length}
 use borrow.Author.Tests.{eqb-true}
-use Rattle.questions.specs.Questions.{ask, ceiling}
+use Rattle.questions.specs.Questions.{ask}
 use Rattle.questions.proofs.Asking.{all-yes, Shape, shape-is}
 use Rattle.questions.proofs.Answering.{answer-no, answer-yes, left-no, left-yes}
 use Rattle.turns.specs.Frames.{Frame, Planes, lengths}
@@ -29,9 +29,9 @@ pub record Estimable (f : Frame) (rooms : Planes ℕ) : Type 0 where
   pub green : rooms .green ≡ f .width * f .height
   pub blue : rooms .blue ≡ f .width * f .height
 
-pub estimable : (f : Frame) (rooms : Planes ℕ) (n : ℕ) → n ≡ ask (estimate-questions f rooms) → n ≡ 0 → Estimable f rooms
-estimable f rooms n e z =
-    let y = all-yes (estimate-questions f rooms) tt n e z in
+pub estimable : (top : ℕ) (f : Frame) (rooms : Planes ℕ) (n : ℕ) → n ≡ ask (estimate-questions top f rooms) → n ≡ 0 → Estimable f rooms
+estimable top f rooms n e z =
+    let y = all-yes (estimate-questions top f rooms) tt n e z in
     let q = y .1 .1 .1 in
     let count = f .width * f .height in
     record {
@@ -42,15 +42,15 @@ estimable f rooms n e z =
     }
 
 -- ---- what it leaves, refused and accepted
-module _ (f : Frame) (before : Planes (List ℕ)) (n : ℕ) (e : n ≡ ask (estimate-questions f (lengths before))) where
-  pub estimate-no : (n ≡ 0 → ⊥) → EstimateResult f before (Refused n) before
+module _ (top : ℕ) (f : Frame) (before : Planes (List ℕ)) (n : ℕ) (e : n ≡ ask (estimate-questions top f (lengths before))) where
+  pub estimate-no : (n ≡ 0 → ⊥) → EstimateResult top f before (Refused n) before
   estimate-no z = record {
-    answer = answer-no number-of-answer (estimate-questions f (lengths before)) Accepted (Refused n) e z;
-    leaves = left-no (estimate-questions f (lengths before)) (estimate-lists ceiling f) before n e z;
+    answer = answer-no number-of-answer (estimate-questions top f (lengths before)) Accepted (Refused n) e z;
+    leaves = left-no (estimate-questions top f (lengths before)) (estimate-lists top f) before n e z;
   }
 
-  pub estimate-yes : n ≡ 0 → (after : Planes (List ℕ)) → after ≡ estimate-lists ceiling f → EstimateResult f before Accepted after
+  pub estimate-yes : n ≡ 0 → (after : Planes (List ℕ)) → after ≡ estimate-lists top f → EstimateResult top f before Accepted after
   estimate-yes z after p = record {
-    answer = answer-yes number-of-answer (estimate-questions f (lengths before)) Accepted Accepted n e z refl refl;
-    leaves = p ∙ left-yes (estimate-questions f (lengths before)) (estimate-lists ceiling f) before n e z;
+    answer = answer-yes number-of-answer (estimate-questions top f (lengths before)) Accepted Accepted n e z refl refl;
+    leaves = p ∙ left-yes (estimate-questions top f (lengths before)) (estimate-lists top f) before n e z;
   }

@@ -4,6 +4,7 @@ ghost use mathlib.Core.Bool.{true, Bool·beq};
 ghost use Prim.Native.Nat.{_+_, _*_, _≤_, _<_};
 ghost use lib.ListN.{length};
 ghost use Rattle.integers.specs.Lists.{overwrite};
+ghost use Rattle.questions.specs.Settings.{ceiling};
 ghost use Rattle.questions.specs.Questions.{ask};
 ghost use Rattle.turns.specs.Layout.{on-red-row, on-red-column};
 ghost use Rattle.turns.specs.Frames.{frame, planes, listing, plane-of};
@@ -235,8 +236,9 @@ fn estimate_rows(
     }
 }
 
-// Questions 1, 2, 3, 6, 7 and 9, of planes that have room for so many samples each.
+// Questions 1, 2, 3, 6, 7 and 9, of planes that have room for so many samples each; `top` is the ceiling.
 fn estimate_refusal(
+    top: u16,
     width: usize,
     height: usize,
     layout: u8,
@@ -245,7 +247,7 @@ fn estimate_refusal(
     green_room: usize,
     blue_room: usize,
 ) -> u32
-    ensures { λ r. ⌜ r ≡ ask (estimate-questions (frame width height layout (now (mosaic .entry))) (planes «red_room» «green_room» «blue_room»)) ⌝ }
+    ensures { λ r. ⌜ r ≡ ask (estimate-questions top (frame width height layout (now (mosaic .entry))) (planes «red_room» «green_room» «blue_room»)) ⌝ }
 {
     let number = questions::shape(width, height, layout);
     if number != 0 {
@@ -265,7 +267,7 @@ fn estimate_refusal(
     if blue_room != count {
         return 7;
     }
-    if !questions::samples_within(4095, mosaic) {
+    if !questions::samples_within(top, mosaic) {
         return 9;
     }
     0
@@ -281,9 +283,11 @@ pub fn estimate(
     green: &mut [u16],
     blue: &mut [u16],
 ) -> EstimateAnswer
-    ensures { λ r. ⌜ EstimateResult (frame width height layout (now (mosaic .entry))) (planes (now (red .entry)) (now (green .entry)) (now (blue .entry))) r (planes (now (red .exit)) (now (green .exit)) (now (blue .exit))) ⌝ }
+    ensures { λ r. ⌜ EstimateResult ceiling (frame width height layout (now (mosaic .entry))) (planes (now (red .entry)) (now (green .entry)) (now (blue .entry))) r (planes (now (red .exit)) (now (green .exit)) (now (blue .exit))) ⌝ }
 {
+    let top = 4095;
     let refusal = estimate_refusal(
+        top,
         width,
         height,
         layout,
@@ -295,6 +299,6 @@ pub fn estimate(
     if refusal != 0 {
         return EstimateAnswer::Refused(refusal);
     }
-    estimate_rows(4095, mosaic, width, height, layout, red, green, blue);
+    estimate_rows(top, mosaic, width, height, layout, red, green, blue);
     EstimateAnswer::Accepted
 }

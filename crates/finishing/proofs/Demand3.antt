@@ -5,23 +5,28 @@ use mathlib.Core.List.{List, [], _∷_}
 use Prim.Native.Nat.{ℕ, _*_}
 use native.Mathlib.Nat.{mul-comm}
 use lib.Dec.{eqb, leb}
-use lib.IntN.{ℤ}
 use lib.ListN.{length}
 use borrow.Author.Tests.{eq-eqb, le-leb}
-use Rattle.questions.specs.Questions.{Question, question, ceiling, ask, between}
+use Rattle.questions.specs.Settings.{ceiling-of}
+use Rattle.questions.specs.Questions.{Question, question, ask, between}
+use Rattle.questions.specs.Answers.{number-of-answer}
+use Rattle.questions.specs.declared.Settings.{Settings}
+use Rattle.questions.specs.declared.Answer.{Answer}
 use Rattle.questions.proofs.Asking.{between-yes}
 use Rattle.questions.proofs.Answering.{left-yes}
-use Rattle.turns.specs.Frames.{Frame, frame, Planes, planes, lengths, turn-frame}
+use Rattle.tally.specs.declared.Tally.{Tally}
+use Rattle.turns.specs.Frames.{Frame, frame, turn-frame}
 use Rattle.turns.specs.Turning.{frame-questions, TurnResult}
 use Rattle.turns.specs.declared.TurnedFrame.{TurnedFrame}
 use Rattle.turns.specs.declared.TurnedFrame.the-variants.{Accepted, Refused}
 use Rattle.turns.proofs.Frames.{turned-whole, all-at-most-turned, layout-turned}
 use Rattle.turns.proofs.Calls.{frame-width, frame-height, Fillable, fillable}
+use Rattle.work_buffer.specs.Lent.{Lent, Rooms, rooms-of}
 use Rattle.finishing.specs.Finishing.{finish-lists}
-use Rattle.finishing.specs.Calls.{finish-call, finish-questions, number-of-answer, FinishResult, FinishNumber}
+use Rattle.finishing.specs.Calls.{finish-questions, with-finished, FrameResult, FinishNumber, finish-call, number-of-finish, FinishResult}
 use Rattle.finishing.specs.Turnings.{TurnRun, left-by, TurnHistory, standing, if-turned, accepted-turns, turned-through, turned-planes}
-use Rattle.finishing.specs.declared.Tally.{Tally}
 use Rattle.finishing.specs.declared.FinishAnswer.{FinishAnswer}
+use Rattle.finishing.proofs.Calls.{frame-number}
 use Rattle.finishing.proofs.Turned.{finished-turned}
 
 -- ---- an accepted turning call
@@ -36,7 +41,7 @@ module _ (t : ℕ) (f : Frame) {before after : List ℕ} {r : TurnedFrame} (u : 
       filled = u .buffer ∙ sym (left-yes (frame-questions t f (length before)) (turn-frame t f .samples) before 0 (sym z) refl)
 
 -- of which finishing's questions are answered as of the frame
-module _ (t : ℕ) (f : Frame) (room : ℕ) (k : Fillable (f .width) (f .height) (f .layout) (length (f .samples)) room) where
+module _ (t : ℕ) (f : Frame) {other : ℕ} (k : Fillable (f .width) (f .height) (f .layout) (length (f .samples)) other) where
   -- one of a frame's two lengths, in range
   in-range : (b : Bool) {n : ℕ} → n ≡ cond b (f .height) (f .width) → between 2 2048 n ≡ true
   in-range true e = ap (between 2 2048) e ∙ between-yes 2 2048 (f .height) (k .shape .height-from) (k .shape .height-to)
@@ -49,19 +54,19 @@ module _ (t : ℕ) (f : Frame) (room : ℕ) (k : Fillable (f .width) (f .height)
       either true = mul-comm (f .height) (f .width)
       either false = refl
 
-  questions-turned : (rounds threshold : ℕ) (rooms : Planes ℕ) (work : ℕ) → finish-questions (turn-frame t f) rounds threshold rooms work ≡ finish-questions f rounds threshold rooms work
-  questions-turned rounds threshold rooms work = λ i.
+  questions-turned : (s : Settings) (room : Rooms) → finish-questions (turn-frame t f) s room ≡ finish-questions f s room
+  questions-turned s room = λ i.
       question 1 (both (in-range (leb 4 t) (frame-width t f)) (in-range false refl) i)
       ∷ question 2 (both (tall (leb 4 t) (frame-height t f)) (in-range true refl) i)
       ∷ question 3 (both (le-leb _ 3 (layout-turned t f (k .shape .layout-to))) (le-leb (f .layout) 3 (k .shape .layout-to)) i)
-      ∷ question 4 (leb rounds 64)
-      ∷ question 5 (leb threshold ceiling)
+      ∷ question 4 (leb (s .rounds) 64)
+      ∷ question 5 (leb (s .threshold) (ceiling-of s))
       ∷ question 6 (both (eq-eqb _ _ (turned-whole t f .count)) (eq-eqb (length (f .samples)) (f .width * f .height) (k .samples)) i)
-      ∷ question 7 (eqb (rooms .red) (area i))
-      ∷ question 7 (eqb (rooms .green) (area i))
-      ∷ question 7 (eqb (rooms .blue) (area i))
-      ∷ question 8 (leb (8 * area i) work)
-      ∷ question 9 (all-at-most-turned ceiling t f (record { count = k .samples }) i)
+      ∷ question 7 (eqb (room .three .red) (area i))
+      ∷ question 7 (eqb (room .three .green) (area i))
+      ∷ question 7 (eqb (room .three .blue) (area i))
+      ∷ question 8 (leb (8 * area i) (room .work))
+      ∷ question 9 (all-at-most-turned (ceiling-of s) t f (record { count = k .samples }) i)
       ∷ []
     where
       both : {a b : Bool} → a ≡ true → b ≡ true → a ≡ b
@@ -81,11 +86,11 @@ stands-turned t f before (Refused number) after u ts = refl
 
 -- and its questions are answered alike
 questions-kept : (t : ℕ) (f : Frame) (before : List ℕ) (r : TurnedFrame) (after : List ℕ) → TurnResult t f before r after
-    → (rounds threshold : ℕ) (rooms : Planes ℕ) (work : ℕ) → finish-questions (left-by f r after) rounds threshold rooms work ≡ finish-questions f rounds threshold rooms work
-questions-kept t f before (Accepted width height layout) after u rounds threshold rooms work =
-    ap (λ (g : Frame). finish-questions g rounds threshold rooms work) (leaves-turned t f u (sym (u .answer .number)))
-    ∙ questions-turned t f (length before) (fillable t (f .width) (f .height) (f .layout) (length (f .samples)) (length before) 0 (u .answer .number) refl) rounds threshold rooms work
-questions-kept t f before (Refused number) after u rounds threshold rooms work = refl
+    → (s : Settings) (room : Rooms) → finish-questions (left-by f r after) s room ≡ finish-questions f s room
+questions-kept t f before (Accepted width height layout) after u s room =
+    ap (λ (g : Frame). finish-questions g s room) (leaves-turned t f u (sym (u .answer .number)))
+    ∙ questions-turned t f (fillable t (f .width) (f .height) (f .layout) (length (f .samples)) (length before) 0 (u .answer .number) refl) s room
+questions-kept t f before (Refused number) after u s room = refl
 
 -- ---- any list of them
 standing-turned : (f : Frame) (runs : List TurnRun) → TurnHistory f runs → standing f runs ≡ turned-through (accepted-turns runs) f
@@ -94,44 +99,45 @@ standing-turned f (run ∷ runs) h =
     standing-turned (left-by f (run .answer) (run .after)) runs (h .1) ∙ stands-turned (run .turn) f (run .before) (run .answer) (run .after) (h .0) (accepted-turns runs)
 
 questions-standing : (f : Frame) (runs : List TurnRun) → TurnHistory f runs
-    → (rounds threshold : ℕ) (rooms : Planes ℕ) (work : ℕ) → finish-questions (standing f runs) rounds threshold rooms work ≡ finish-questions f rounds threshold rooms work
-questions-standing f [] h rounds threshold rooms work = refl
-questions-standing f (run ∷ runs) h rounds threshold rooms work =
-    questions-standing (left-by f (run .answer) (run .after)) runs (h .1) rounds threshold rooms work ∙ questions-kept (run .turn) f (run .before) (run .answer) (run .after) (h .0) rounds threshold rooms work
+    → (s : Settings) (room : Rooms) → finish-questions (standing f runs) s room ≡ finish-questions f s room
+questions-standing f [] h s room = refl
+questions-standing f (run ∷ runs) h s room =
+    questions-standing (left-by f (run .answer) (run .after)) runs (h .1) s room ∙ questions-kept (run .turn) f (run .before) (run .answer) (run .after) (h .0) s room
 
 -- the two finishings, of each only the number of its answer
-pub finished-alike : (f : Frame) (turnings : List TurnRun) → TurnHistory f turnings
-    → (rounds threshold : ℕ) {before₁ before₂ : Planes (List ℕ)} {work₁ work₂ : List ℤ} → lengths before₁ ≡ lengths before₂ → length work₁ ≡ length work₂
-    → {tally₁ tally₂ : Tally} {n₁ n₂ : ℕ} {after₁ after₂ : Planes (List ℕ)} {work-after₁ work-after₂ : List ℤ}
-    → FinishNumber (finish-call f rounds threshold tally₁ before₁ work₁) n₁ after₁ work-after₁
-    → FinishNumber (finish-call (standing f turnings) rounds threshold tally₂ before₂ work₂) n₂ after₂ work-after₂
-    → (n₁ ≡ n₂) × (n₁ ≡ 0 → after₂ ≡ turned-planes (accepted-turns turnings) f after₁)
-finished-alike f turnings h rounds threshold {before₁} {before₂} {work₁} {work₂} rooms room p q = (
+pub finished-alike : (f : Frame) (turnings : List TurnRun) → TurnHistory f turnings → (s : Settings) (before₁ before₂ : Lent) → rooms-of before₁ ≡ rooms-of before₂
+    → {n₁ n₂ : ℕ} {after₁ after₂ : Lent} → FinishNumber f s before₁ n₁ after₁ → FinishNumber (standing f turnings) s before₂ n₂ after₂
+    → (n₁ ≡ n₂) × (n₁ ≡ 0 → after₂ .three ≡ turned-planes (accepted-turns turnings) f (after₁ .three))
+finished-alike f turnings h s before₁ before₂ room p q = (
   p .number ∙ ap ask alike ∙ sym (q .number),
   (λ z.
-      q .leaves .three-planes ∙ sym (left-yes second _ _ 0 (sym (sym (ap ask alike) ∙ sym (p .number) ∙ z)) refl)
-      ∙ ap (finish-lists ceiling rounds threshold) (standing-turned f turnings h) ∙ finished-turned ceiling rounds threshold (accepted-turns turnings) f
-      ∙ ap (turned-planes (accepted-turns turnings) f) (left-yes first _ _ 0 (sym (sym (p .number) ∙ z)) refl ∙ sym (p .leaves .three-planes))),
+      ap (λ (l : Lent). l .three) (q .leaves ∙ sym (left-yes second _ _ 0 (sym (sym (ap ask alike) ∙ sym (p .number) ∙ z)) refl))
+      ∙ ap (λ (g : Frame). finish-lists g s) (standing-turned f turnings h) ∙ finished-turned s (accepted-turns turnings) f
+      ∙ ap (λ (l : Lent). turned-planes (accepted-turns turnings) f (l .three)) (left-yes first (with-finished f s before₁) before₁ 0 (sym (sym (p .number) ∙ z)) refl ∙ sym (p .leaves))),
 )
   where
     first : List Question
-    first = finish-questions f rounds threshold (lengths before₁) (length work₁)
+    first = finish-questions f s (rooms-of before₁)
 
     second : List Question
-    second = finish-questions (standing f turnings) rounds threshold (lengths before₂) (length work₂)
+    second = finish-questions (standing f turnings) s (rooms-of before₂)
 
     alike : first ≡ second
-    alike = (λ i. finish-questions f rounds threshold (rooms i) (room i)) ∙ sym (questions-standing f turnings h rounds threshold (lengths before₂) (length work₂))
+    alike = ap (finish-questions f s) room ∙ sym (questions-standing f turnings h s (rooms-of before₂))
 
 -- Take any frame f and any list of turning calls, refused ones included, each given what the last accepted one before it left. Finish the
--- frame as first given, and finish what stands after the list, with the same rounds, threshold and buffer lengths, whatever planes and
--- work buffers held before, and with any tallies. Then both have the same number, 0 for accepted; and where it is 0, each plane of the
--- second is the first's plane of that colour turned by the list's accepted turns in order.
-pub demand-3 : (f : Frame) (turnings : List TurnRun) → TurnHistory f turnings
-    → (rounds threshold : ℕ) {before₁ before₂ : Planes (List ℕ)} {work₁ work₂ : List ℤ} → lengths before₁ ≡ lengths before₂ → length work₁ ≡ length work₂
-    → {tally₁ tally₂ : Tally} {r₁ r₂ : FinishAnswer} {after₁ after₂ : Planes (List ℕ)} {work-after₁ work-after₂ : List ℤ}
-    → FinishResult (finish-call f rounds threshold tally₁ before₁ work₁) r₁ after₁ work-after₁
-    → FinishResult (finish-call (standing f turnings) rounds threshold tally₂ before₂ work₂) r₂ after₂ work-after₂
-    → (number-of-answer r₁ ≡ number-of-answer r₂) × (number-of-answer r₁ ≡ 0 → after₂ ≡ turned-planes (accepted-turns turnings) f after₁)
-demand-3 f turnings h rounds threshold rooms room p q =
-    finished-alike f turnings h rounds threshold rooms room (record { number = p .answer .number; leaves = p .leaves }) (record { number = q .answer .number; leaves = q .leaves })
+-- frame as first given, and finish what stands after the list, with the same settings and buffer lengths, whatever planes and work
+-- buffers held before. Then both have the same number, 0 for accepted; and where it is 0, each plane of the second is the first's plane of
+-- that colour turned by the list's accepted turns in order.
+pub demand-3 : (f : Frame) (turnings : List TurnRun) → TurnHistory f turnings → (s : Settings) (before₁ before₂ : Lent) → rooms-of before₁ ≡ rooms-of before₂
+    → {r₁ r₂ : Answer} {after₁ after₂ : Lent} → FrameResult f s before₁ r₁ after₁ → FrameResult (standing f turnings) s before₂ r₂ after₂
+    → (number-of-answer r₁ ≡ number-of-answer r₂) × (number-of-answer r₁ ≡ 0 → after₂ .three ≡ turned-planes (accepted-turns turnings) f (after₁ .three))
+demand-3 f turnings h s before₁ before₂ room p q = finished-alike f turnings h s before₁ before₂ room (frame-number f s before₁ p refl) (frame-number (standing f turnings) s before₂ q refl)
+
+-- The same of the finishing call with a tally, with any two tallies.
+pub demand-3-counted : (f : Frame) (turnings : List TurnRun) → TurnHistory f turnings → (s : Settings) (before₁ before₂ : Lent) → rooms-of before₁ ≡ rooms-of before₂
+    → {tally₁ tally₂ : Tally} {r₁ r₂ : FinishAnswer} {after₁ after₂ : Lent}
+    → FinishResult (finish-call f s before₁ tally₁) r₁ after₁ → FinishResult (finish-call (standing f turnings) s before₂ tally₂) r₂ after₂
+    → (number-of-finish r₁ ≡ number-of-finish r₂) × (number-of-finish r₁ ≡ 0 → after₂ .three ≡ turned-planes (accepted-turns turnings) f (after₁ .three))
+demand-3-counted f turnings h s before₁ before₂ room p q =
+    finished-alike f turnings h s before₁ before₂ room (record { number = p .answer .number; leaves = p .leaves }) (record { number = q .answer .number; leaves = q .leaves })

@@ -1,5 +1,5 @@
 pub mod Parts
 pub mod Calls
-pub mod Counting
+pub mod Histories
 pub mod Turned
 pub mod Demand3

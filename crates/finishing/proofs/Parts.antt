@@ -4,17 +4,20 @@ use mathlib.Core.Path.{_≡_, refl, sym, _∙_, ap, subst}
 use mathlib.Core.Bool.{true}
 use mathlib.Core.List.{List, _++_}
 use Prim.Native.Nat.{ℕ, _*_, _≤_}
+use native.Mathlib.Omega.{arith}
 use lib.IntN.{ℤ}
 use lib.ListN.{length}
 use borrow.Author.Tests.{eqb-true, leb-true, eq-eqb, le-leb}
-use Rattle.questions.specs.Questions.{ceiling, ask, all-at-most, shape-questions, settings-questions, frame-questions}
+use Rattle.questions.specs.Settings.{ceiling-of}
+use Rattle.questions.specs.Questions.{ask, all-at-most, shape-questions, settings-questions, frame-questions}
+use Rattle.questions.specs.declared.Settings.{Settings}
 use Rattle.questions.proofs.Asking.{AllYes, all-yes, all-yes-split, all-yes-both, ask-zero}
 use Rattle.questions.proofs.Answering.{left-yes}
 use Rattle.turns.specs.Frames.{Frame, Planes, planes, lengths, listing, plane-of}
 use Rattle.turns.proofs.Commuting.{Agree}
 use Rattle.turns.proofs.Frames.{length-listing, listing-agree, plane-of-listing, plane-bound, listing-bound}
 use Rattle.work_buffer.specs.Buffer.{zeroed}
-use Rattle.work_buffer.specs.Lent.{buffer-questions}
+use Rattle.work_buffer.specs.Lent.{Lent, lent, rooms-of, buffer-questions}
 use Rattle.work_buffer.proofs.Buffer.{length-zeroed, zeroed-again}
 use Rattle.estimate.specs.Estimates.{estimate}
 use Rattle.estimate.specs.Calls.{estimate-questions, estimate-lists, EstimateResult}
@@ -31,7 +34,7 @@ use Rattle.rounds.specs.declared.RoundsAnswer.{RoundsAnswer}
 use Rattle.rounds.proofs.Turned.{rounds-commute}
 use Rattle.rounds.proofs.Calls.{lists-are}
 use Rattle.finishing.specs.Finishing.{updated, finish, finish-lists}
-use Rattle.finishing.specs.Calls.{finish-questions}
+use Rattle.finishing.specs.Calls.{finish-questions, with-finished}
 
 -- ---- the planes on the way
 -- the estimates, green updated, row by row
@@ -57,63 +60,73 @@ update-list-bound top f green e small =
     listing-bound top (f .width) (f .height) _ (update-bound top (f .width) (f .height) (f .layout) _ (plane-bound top (f .width) (f .height) green e small))
 
 -- ---- what an accepted call knows
-module _ (f : Frame) (n threshold : ℕ) (rooms : Planes ℕ) (room : ℕ) (e : 0 ≡ ask (finish-questions f n threshold rooms room)) where
+module _ (f : Frame) (s : Settings) (before : Lent) (e : 0 ≡ ask (finish-questions f s (rooms-of before))) where
   abbrev count : ℕ
   count = f .width * f .height
 
+  abbrev top : ℕ
+  top = ceiling-of s
+
   -- all questions are answered yes
-  known : AllYes (frame-questions ceiling (f .width) (f .height) (f .layout) n threshold) × AllYes (buffer-questions count (f .samples) rooms room)
+  known : AllYes (frame-questions (f .width) (f .height) (f .layout) s) × AllYes (buffer-questions top count (f .samples) (rooms-of before))
   known =
-      all-yes-split (frame-questions ceiling (f .width) (f .height) (f .layout) n threshold) (buffer-questions count (f .samples) rooms room)
-      (all-yes (finish-questions f n threshold rooms room) tt 0 e refl)
+      all-yes-split (frame-questions (f .width) (f .height) (f .layout) s) (buffer-questions top count (f .samples) (rooms-of before))
+      (all-yes (finish-questions f s (rooms-of before)) tt 0 e refl)
 
   shape : AllYes (shape-questions (f .width) (f .height) (f .layout))
-  shape = all-yes-split (shape-questions (f .width) (f .height) (f .layout)) (settings-questions ceiling n threshold) (known .0) .0
+  shape = all-yes-split (shape-questions (f .width) (f .height) (f .layout)) (settings-questions s) (known .0) .0
 
   long : length (f .samples) ≡ count
   long = let y = known .1 in eqb-true (length (f .samples)) count (search y)
 
-  small : all-at-most ceiling (f .samples) ≡ true
+  small : all-at-most top (f .samples) ≡ true
   small = let y = known .1 in search y
 
-  pub work-room : 8 * count ≤ room
-  work-room = let y = known .1 in leb-true (8 * count) room (search y)
+  pub work-room : 8 * count ≤ length (before .work)
+  work-room = let y = known .1 in leb-true (8 * count) (length (before .work)) (search y)
 
   -- so they are of each part
-  pub estimate-accepts : 0 ≡ ask (estimate-questions f rooms)
+  pub estimate-accepts : 0 ≡ ask (estimate-questions top f (lengths (before .three)))
   estimate-accepts =
       let y = known .1 in
-      sym (ask-zero (estimate-questions f rooms) (shape .0, (shape .1 .0, (shape .1 .1 .0, (search y, (search y, (search y, (search y, (search y, tt)))))))))
+      sym (ask-zero (estimate-questions top f (lengths (before .three))) (shape .0, (shape .1 .0, (shape .1 .1 .0, (search y, (search y, (search y, (search y, (search y, tt)))))))))
 
   abbrev first : Planes (List ℕ)
-  first = estimate-lists ceiling f
+  first = estimate-lists top f
 
   green-long : length (first .green) ≡ count
-  green-long = ap (λ p. p .green) (estimates-long ceiling f)
+  green-long = ap (λ p. p .green) (estimates-long top f)
 
-  pub update-accepts : 0 ≡ ask (update-questions f (first .green) room)
+  pub update-accepts : 0 ≡ ask (update-questions top f (first .green) (length (before .work)))
   update-accepts =
-      sym (ask-zero (update-questions f (first .green) room)
-      (all-yes-both (shape-questions (f .width) (f .height) (f .layout)) (updating-questions count (f .samples) (first .green) room) shape
-      (eq-eqb (length (f .samples)) count long, (eq-eqb (length (first .green)) count green-long, (le-leb (8 * count) room work-room, (small, (lists-bound ceiling f long small .1, tt)))))))
+      sym (ask-zero (update-questions top f (first .green) (length (before .work)))
+      (all-yes-both (shape-questions (f .width) (f .height) (f .layout)) (updating-questions top count (f .samples) (first .green) (length (before .work))) shape
+      (eq-eqb (length (f .samples)) count long, (eq-eqb (length (first .green)) count green-long, (le-leb (8 * count) (length (before .work)) work-room, (small, (lists-bound top f long small .1, tt)))))))
 
-  pub rounds-accepts : 0 ≡ ask (rounds.rounds-questions f n threshold (updated-lists ceiling f) room)
+  -- the work buffer is zeroed by then
+  abbrev given : Lent
+  given = record { three = updated-lists top f; work = zeroed (f .width) (f .height) (before .work) }
+
+  zeroed-room : 8 * count ≤ length (given .work)
+  zeroed-room = omega (arith, work-room, length-zeroed (f .width) (f .height) (before .work) work-room)
+
+  pub rounds-accepts : 0 ≡ ask (rounds.rounds-questions f s given)
   unfolding updated-lists
   rounds-accepts =
-      sym (ask-zero (rounds.rounds-questions f n threshold (updated-lists ceiling f) room)
-      (all-yes-both (frame-questions ceiling (f .width) (f .height) (f .layout) n threshold) (buffer-questions count (f .samples) (lengths (updated-lists ceiling f)) room ++ rounds.planes-questions (updated-lists ceiling f)) (known .0) (
+      sym (ask-zero (rounds.rounds-questions f s given)
+      (all-yes-both (frame-questions (f .width) (f .height) (f .layout) s) (buffer-questions top count (f .samples) (rooms-of given) ++ rounds.planes-questions top (given .three)) (known .0) (
         eq-eqb (length (f .samples)) count long,
         (
-          eq-eqb (length (first .red)) count (ap (λ p. p .red) (estimates-long ceiling f)),
+          eq-eqb (length (first .red)) count (ap (λ p. p .red) (estimates-long top f)),
           (
-            eq-eqb _ count (update-long ceiling f (first .green)),
+            eq-eqb _ count (update-long top f (first .green)),
             (
-              eq-eqb (length (first .blue)) count (ap (λ p. p .blue) (estimates-long ceiling f)),
+              eq-eqb (length (first .blue)) count (ap (λ p. p .blue) (estimates-long top f)),
               (
-                le-leb (8 * count) room work-room,
+                le-leb (8 * count) (length (given .work)) zeroed-room,
                 (
                   small,
-                  (lists-bound ceiling f long small .0, (update-list-bound ceiling f (first .green) green-long (lists-bound ceiling f long small .1), (lists-bound ceiling f long small .2, tt))),
+                  (lists-bound top f long small .0, (update-list-bound top f (first .green) green-long (lists-bound top f long small .1), (lists-bound top f long small .2, tt))),
                 ),
               ),
             ),
@@ -122,12 +135,15 @@ module _ (f : Frame) (n threshold : ℕ) (rooms : Planes ℕ) (room : ℕ) (e : 
       )))
 
 -- ---- what the parts leave together
-pub finished-by-parts : (top : ℕ) (f : Frame) (n threshold : ℕ) → rounds.rounds-lists top f n threshold (updated-lists top f) ≡ finish-lists top n threshold f
+pub finished-by-parts : (f : Frame) (s : Settings) → rounds.rounds-lists f s (updated-lists (ceiling-of s) f) ≡ finish-lists f s
 unfolding updated-lists finish-lists finish
-finished-by-parts top f n threshold =
-    lists-are top f n threshold (updated-lists top f) (update-long top f (estimate-lists top f .green))
+finished-by-parts f s =
+    lists-are f s (updated-lists top f) (update-long top f (estimate-lists top f .green))
     ∙ (λ i. planes (colour (λ p. p .red) i) (colour (λ p. p .green) i) (colour (λ p. p .blue) i))
   where
+    top : ℕ
+    top = ceiling-of s
+
     w : ℕ
     w = f .width
 
@@ -159,46 +175,45 @@ finished-by-parts top f n threshold =
     all r c hr hc = unfold updated in (λ i. planes (estimated r c hr hc i .red) (green r c hr hc i) (estimated r c hr hc i .blue))
 
     colour : (part : Planes ℕ → ℕ)
-        → listing w h (λ r c. part (rounds top n threshold w h (f .layout) (λ i j. (mosaic i j, read (updated-lists top f) i j)) r c))
-        ≡ listing w h (λ r c. part (rounds top n threshold w h (f .layout) (λ i j. (mosaic i j, updated top w h (f .layout) mosaic i j)) r c))
-    colour part = listing-agree w h (λ r c hr hc. ap part (rounds-commute top n threshold .agrees w h (f .layout) _ _ (λ i j hi hj. λ k. (mosaic i j, all i j hi hj k)) r c hr hc))
+        → listing w h (λ r c. part (rounds s w h (f .layout) (λ i j. (mosaic i j, read (updated-lists top f) i j)) r c))
+        ≡ listing w h (λ r c. part (rounds s w h (f .layout) (λ i j. (mosaic i j, updated top w h (f .layout) mosaic i j)) r c))
+    colour part = listing-agree w h (λ r c hr hc. ap part (rounds-commute s .agrees w h (f .layout) _ _ (λ i j hi hj. λ k. (mosaic i j, all i j hi hj k)) r c hr hc))
 
 -- what is left after the three calls, each given what the one before it left
-pub parts-leave : (f : Frame) (n threshold : ℕ) (before : Planes (List ℕ)) (work : List ℤ) → 0 ≡ ask (finish-questions f n threshold (lengths before) (length work))
-    → {a : EstimateAnswer} {b : UpdateAnswer} {c : RoundsAnswer} {first third : Planes (List ℕ)} {green : List ℕ} {work₂ work₃ : List ℤ}
-    → EstimateResult f before a first → UpdateResult f (first .green) work b green work₂ → rounds.RoundsResult f n threshold (planes (first .red) green (first .blue)) work₂ c third work₃
-    → (third ≡ finish-lists ceiling n threshold f) × (work₃ ≡ zeroed (f .width) (f .height) work)
-parts-leave f n threshold before work e {b = b} {c = c} {first} {third} {green} {work₂} {work₃} p q r = (
-  t .leaves .three-planes ∙ sym (left-yes (rounds.rounds-questions f n threshold (updated-lists ceiling f) (length (zeroed (f .width) (f .height) work))) _ _ 0 accepts refl) ∙ finished-by-parts ceiling f n threshold,
-  t .leaves .work-buffer ∙ sym (left-yes (rounds.rounds-questions f n threshold (updated-lists ceiling f) (length (zeroed (f .width) (f .height) work))) _ _ 0 accepts refl) ∙ zeroed-again (f .width) (f .height) work room,
-)
+pub parts-leave : (f : Frame) (s : Settings) (before : Lent) → 0 ≡ ask (finish-questions f s (rooms-of before))
+    → {a : EstimateAnswer} {b : UpdateAnswer} {c : RoundsAnswer} {first : Planes (List ℕ)} {green : List ℕ} {work : List ℤ} {last : Lent}
+    → EstimateResult (ceiling-of s) f (before .three) a first → UpdateResult (ceiling-of s) f (first .green) (before .work) b green work
+    → rounds.RoundsResult f s (lent (first .red) green (first .blue) work) c last → last ≡ with-finished f s before
+parts-leave f s before e {b = b} {c = c} {first} {green} {work} {last} p q r =
+    t .leaves ∙ sym (left-yes (rounds.rounds-questions f s left) (rounds.with-rounds f s left) left 0 (rounds-accepts f s before e) refl)
+    ∙ (λ i. record { three = finished-by-parts f s i; work = zeroed-again (f .width) (f .height) (before .work) (work-room f s before e) i })
   where
-    room : 8 * (f .width * f .height) ≤ length work
-    room = work-room f n threshold (lengths before) (length work) e
+    top : ℕ
+    top = ceiling-of s
 
     -- the estimate leaves its lists
-    estimated : first ≡ estimate-lists ceiling f
-    estimated = p .leaves ∙ sym (left-yes (estimate-questions f (lengths before)) _ _ 0 (estimate-accepts f n threshold (lengths before) (length work) e) refl)
+    estimated : first ≡ estimate-lists top f
+    estimated = p .leaves ∙ sym (left-yes (estimate-questions top f (lengths (before .three))) _ _ 0 (estimate-accepts f s before e) refl)
 
     -- the update, given them
-    s : UpdateResult f (estimate-lists ceiling f .green) work b green work₂
-    s = subst (λ (x : Planes (List ℕ)). UpdateResult f (x .green) work b green work₂) estimated q
+    u : UpdateResult top f (estimate-lists top f .green) (before .work) b green work
+    u = subst (λ (x : Planes (List ℕ)). UpdateResult top f (x .green) (before .work) b green work) estimated q
 
-    updating : 0 ≡ ask (update-questions f (estimate-lists ceiling f .green) (length work))
-    updating = update-accepts f n threshold (lengths before) (length work) e
+    updating : 0 ≡ ask (update-questions top f (estimate-lists top f .green) (length (before .work)))
+    updating = update-accepts f s before e
 
-    given : planes (first .red) green (first .blue) ≡ updated-lists ceiling f
-    given = unfold updated-lists in
-        (λ i. planes (estimated i .red) ((s .leaves .plane ∙ sym (left-yes (update-questions f (estimate-lists ceiling f .green) (length work)) (update-list ceiling f (estimate-lists ceiling f .green)) (estimate-lists ceiling f .green) 0 updating refl)) i) (estimated i .blue))
+    updated-green : green ≡ update-list top f (estimate-lists top f .green)
+    updated-green = u .leaves .plane ∙ sym (left-yes (update-questions top f (estimate-lists top f .green) (length (before .work))) (update-list top f (estimate-lists top f .green)) (estimate-lists top f .green) 0 updating refl)
 
-    zero : work₂ ≡ zeroed (f .width) (f .height) work
-    zero = s .leaves .buffer ∙ sym (left-yes (update-questions f (estimate-lists ceiling f .green) (length work)) _ _ 0 updating refl)
+    zero : work ≡ zeroed (f .width) (f .height) (before .work)
+    zero = u .leaves .buffer ∙ sym (left-yes (update-questions top f (estimate-lists top f .green) (length (before .work))) _ _ 0 updating refl)
 
     -- and the rounds, given what it left
-    t : rounds.RoundsResult f n threshold (updated-lists ceiling f) (zeroed (f .width) (f .height) work) c third work₃
-    t = subst (λ (x : List ℤ). rounds.RoundsResult f n threshold (updated-lists ceiling f) x c third work₃) zero
-        (subst (λ (x : Planes (List ℕ)). rounds.RoundsResult f n threshold x work₂ c third work₃) given r)
+    left : Lent
+    left = record { three = updated-lists top f; work = zeroed (f .width) (f .height) (before .work) }
 
-    accepts : 0 ≡ ask (rounds.rounds-questions f n threshold (updated-lists ceiling f) (length (zeroed (f .width) (f .height) work)))
-    accepts = rounds-accepts f n threshold (lengths before) (length work) e
-        ∙ ap (λ (k : ℕ). ask (rounds.rounds-questions f n threshold (updated-lists ceiling f) k)) (sym (length-zeroed (f .width) (f .height) work room))
+    given : lent (first .red) green (first .blue) work ≡ left
+    given = unfold updated-lists in (λ i. lent (estimated i .red) (updated-green i) (estimated i .blue) (zero i))
+
+    t : rounds.RoundsResult f s left c last
+    t = subst (λ (x : Lent). rounds.RoundsResult f s x c last) given r

@@ -2,6 +2,8 @@
 use mathlib.Core.Path.{_≡_, refl, _∙_, ap}
 use mathlib.Core.List.{List, [], _∷_}
 use Prim.Native.Nat.{ℕ}
+use Rattle.questions.specs.Settings.{ceiling-of}
+use Rattle.questions.specs.declared.Settings.{Settings}
 use Rattle.turns.specs.Frames.{Frame, frame, Planes, planes, listing, plane-of, picture-of, frame-of, turn-frame}
 use Rattle.turns.specs.Operations.{Operation}
 use Rattle.turns.specs.Pictures.{steps-of, turned, _≈_}
@@ -25,10 +27,10 @@ updated-commutes top =
     (pointwise {A = ℕ × Planes ℕ} same same (λ x. x .1 .blue) (λ x. refl)))
     (pointwise same same (λ x. planes (x .0 .0) (x .0 .1) (x .1)) (λ x. refl)))
 
-pub finish-commutes : (top n threshold : ℕ) → Commutes same same (finish top n threshold)
+pub finish-commutes : (s : Settings) → Commutes same same (finish s)
 unfolding finish
-finish-commutes top n threshold =
-    composed {B = ℕ × Planes ℕ} (paired (pointwise same same (λ x. x) (λ x. refl)) (updated-commutes top)) (rounds-commute top n threshold)
+finish-commutes s =
+    composed {B = ℕ × Planes ℕ} (paired (pointwise same same (λ x. x) (λ x. refl)) (updated-commutes (ceiling-of s))) (rounds-commute s)
 
 -- ---- on frames
 module _ {F : Operation ℕ ℕ} (n : Commutes same same F) where
@@ -52,12 +54,12 @@ module _ {F : Operation ℕ ℕ} (n : Commutes same same F) where
   made-through (t ∷ ts) f = made-through ts (turn-frame t f) ∙ ap (turned-through ts) (made-turned t f)
 
 -- finishing a turned frame is turning the finished planes
-pub finished-turned : (top n threshold : ℕ) (ts : List ℕ) (f : Frame) → finish-lists top n threshold (turned-through ts f) ≡ turned-planes ts f (finish-lists top n threshold f)
+pub finished-turned : (s : Settings) (ts : List ℕ) (f : Frame) → finish-lists (turned-through ts f) s ≡ turned-planes ts f (finish-lists f s)
 unfolding finish-lists turned-plane
-finished-turned top n threshold ts f = λ i. planes (colour (λ p. p .red) i .samples) (colour (λ p. p .green) i .samples) (colour (λ p. p .blue) i .samples)
+finished-turned s ts f = λ i. planes (colour (λ p. p .red) i .samples) (colour (λ p. p .green) i .samples) (colour (λ p. p .blue) i .samples)
   where
     part : (Planes ℕ → ℕ) → Operation ℕ ℕ
-    part p w h l mosaic r c = p (finish top n threshold w h l mosaic r c)
+    part p w h l mosaic r c = p (finish s w h l mosaic r c)
 
-    colour : (p : Planes ℕ → ℕ) → made {F = part p} (composed (finish-commutes top n threshold) (pointwise same same p (λ x. refl))) (turned-through ts f) ≡ turned-through ts (made {F = part p} (composed (finish-commutes top n threshold) (pointwise same same p (λ x. refl))) f)
-    colour p = made-through {F = part p} (composed (finish-commutes top n threshold) (pointwise same same p (λ x. refl))) ts f
+    colour : (p : Planes ℕ → ℕ) → made {F = part p} (composed (finish-commutes s) (pointwise same same p (λ x. refl))) (turned-through ts f) ≡ turned-through ts (made {F = part p} (composed (finish-commutes s) (pointwise same same p (λ x. refl))) f)
+    colour p = made-through {F = part p} (composed (finish-commutes s) (pointwise same same p (λ x. refl))) ts f

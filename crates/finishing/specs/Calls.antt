@@ -1,65 +1,79 @@
--- The finishing call: what it asks, and what its answer, its tally, its planes and its work buffer are then. Assumes nothing.
+-- The finishing call: what it asks, and what its answer, its planes and its work buffer are then; and the same call with a tally. Assumes
+-- nothing.
 use mathlib.Core.Path.{_≡_}
 use mathlib.Core.List.{List}
 use Prim.Native.Nat.{ℕ}
-use lib.IntN.{ℤ}
-use lib.ListN.{length}
-use Rattle.questions.specs.Questions.{Question, ceiling, ask}
-use Rattle.questions.specs.Answers.{Answered, Numbered, if-accepted}
-use Rattle.turns.specs.Frames.{Frame, Planes, lengths}
+use Rattle.questions.specs.Settings.{rounds-of}
+use Rattle.questions.specs.Questions.{Question, ask}
+use Rattle.questions.specs.Answers.{number-of-answer, Answered, Numbered, if-accepted}
+use Rattle.questions.specs.declared.Settings.{Settings}
+use Rattle.questions.specs.declared.Answer.{Answer}
+use Rattle.questions.specs.declared.Answer.the-variants as answer
+use Rattle.tally.specs.Tally.{next-tally}
+use Rattle.tally.specs.declared.Tally.{Tally}
+use Rattle.turns.specs.Frames.{Frame}
 use Rattle.work_buffer.specs.Buffer.{zeroed}
-use Rattle.work_buffer.specs.Lent.{lent-questions}
+use Rattle.work_buffer.specs.Lent.{Lent, Rooms, rooms-of, lent-questions}
 use Rattle.finishing.specs.Finishing.{finish-lists}
-use Rattle.finishing.specs.Tally.{next-tally}
-use Rattle.finishing.specs.declared.Tally.{Tally}
 use Rattle.finishing.specs.declared.FinishAnswer.{FinishAnswer}
 use Rattle.finishing.specs.declared.FinishAnswer.the-variants as finish-answer
 
--- what a finishing call is given: a frame, how many rounds, the threshold, a tally, and what the lent planes and the work buffer hold
-pub record FinishCall : Type 0 where
-  pub frame : Frame
-  pub rounds : ℕ
-  pub threshold : ℕ
-  pub tally : Tally
-  pub before : Planes (List ℕ)
-  pub work : List ℤ
-
-abbrev pub finish-call : Frame → ℕ → ℕ → Tally → Planes (List ℕ) → List ℤ → FinishCall
-finish-call f rounds threshold tally before work = record { frame = f; rounds = rounds; threshold = threshold; tally = tally; before = before; work = work }
-
--- ---- the questions, in document 01's order: 1 to 9, of a frame and of the lengths of planes and work buffer
-abbrev pub finish-questions : Frame → ℕ → ℕ → Planes ℕ → ℕ → List Question
+-- ---- the questions, in document 01's order: 1 to 9, of a frame, its settings, and the room in planes and work buffer
+abbrev pub finish-questions : Frame → Settings → Rooms → List Question
 finish-questions = lent-questions
 
--- those of a call
-abbrev pub questions-of : FinishCall → List Question
-questions-of c = finish-questions (c .frame) (c .rounds) (c .threshold) (lengths (c .before)) (length (c .work))
+-- ---- without a tally
+-- what an accepted call makes of what it is lent
+abbrev pub with-finished : Frame → Settings → Lent → Lent
+with-finished f s before = record { three = finish-lists f s; work = zeroed (f .width) (f .height) (before .work) }
 
--- document 01's number of an answer, and its tally
-abbrev pub number-of-answer : FinishAnswer → ℕ
-number-of-answer (finish-answer.Accepted tally) = 0
-number-of-answer (finish-answer.Refused number tally) = number
-
-abbrev pub tally-of-answer : FinishAnswer → Tally
-tally-of-answer (finish-answer.Accepted tally) = tally
-tally-of-answer (finish-answer.Refused number tally) = tally
-
--- ---- what is promised
--- the tally that a call hands back
-abbrev pub tally-after : FinishCall → Tally
-tally-after c = next-tally (ask (questions-of c)) (c .rounds) (c .tally)
-
--- what the planes and the work buffer hold after call c
-pub record FinishLeaves (c : FinishCall) (after : Planes (List ℕ)) (work-after : List ℤ) : Type 0 where
-  pub three-planes : after ≡ if-accepted (questions-of c) (finish-lists ceiling (c .rounds) (c .threshold) (c .frame)) (c .before)
-  pub work-buffer : work-after ≡ if-accepted (questions-of c) (zeroed (c .frame .width) (c .frame .height) (c .work)) (c .work)
+-- the call, given frame f, settings s, and planes and work buffer that held `before`: what they hold after
+abbrev pub FinishLeaves : Frame → Settings → Lent → Lent → Type 0
+FinishLeaves f s before after = after ≡ if-accepted (finish-questions f s (rooms-of before)) (with-finished f s before) before
 
 -- and its answer r
-pub record FinishResult (c : FinishCall) (r : FinishAnswer) (after : Planes (List ℕ)) (work-after : List ℤ) : Type 0 where
-  pub answer : Answered number-of-answer (questions-of c) (finish-answer.Accepted (tally-after c)) r
-  pub next : tally-of-answer r ≡ tally-after c
-  pub leaves : FinishLeaves c after work-after
+pub record FrameResult (f : Frame) (s : Settings) (before : Lent) (r : Answer) (after : Lent) : Type 0 where
+  pub answer : Answered number-of-answer (finish-questions f s (rooms-of before)) answer.Accepted r
+  pub leaves : FinishLeaves f s before after
 
 -- of the answer only its number r
-abbrev pub FinishNumber : FinishCall → ℕ → Planes (List ℕ) → List ℤ → Type 0
-FinishNumber c r after work-after = Numbered (questions-of c) (FinishLeaves c after work-after) r
+abbrev pub FinishNumber : Frame → Settings → Lent → ℕ → Lent → Type 0
+FinishNumber f s before r after = Numbered (finish-questions f s (rooms-of before)) (FinishLeaves f s before after) r
+
+-- ---- with a tally
+-- what the call is given then
+pub record FinishCall : Type 0 where
+  pub frame : Frame
+  pub settings : Settings
+  pub before : Lent
+  pub tally : Tally
+
+abbrev pub finish-call : Frame → Settings → Lent → Tally → FinishCall
+finish-call f s before tally = record { frame = f; settings = s; before = before; tally = tally }
+
+abbrev pub questions-of : FinishCall → List Question
+questions-of c = finish-questions (c .frame) (c .settings) (rooms-of (c .before))
+
+-- the number of its answer, and the tally that it hands back
+abbrev pub number-of-finish : FinishAnswer → ℕ
+number-of-finish (finish-answer.Accepted tally) = 0
+number-of-finish (finish-answer.Refused number tally) = number
+
+abbrev pub tally-of-finish : FinishAnswer → Tally
+tally-of-finish (finish-answer.Accepted tally) = tally
+tally-of-finish (finish-answer.Refused number tally) = tally
+
+-- the answer of a call without a tally, and that tally
+abbrev pub with-tally : Answer → Tally → FinishAnswer
+with-tally answer.Accepted tally = finish-answer.Accepted tally
+with-tally (answer.Refused number) tally = finish-answer.Refused number tally
+
+-- the tally after call c
+abbrev pub next-of : FinishCall → Tally
+next-of c = next-tally (ask (questions-of c)) (rounds-of (c .settings)) (c .tally)
+
+-- call c's answer r, and what planes and work buffer hold after
+pub record FinishResult (c : FinishCall) (r : FinishAnswer) (after : Lent) : Type 0 where
+  pub answer : Answered number-of-finish (questions-of c) (finish-answer.Accepted (next-of c)) r
+  pub next : tally-of-finish r ≡ next-of c
+  pub leaves : FinishLeaves (c .frame) (c .settings) (c .before) after

@@ -1,6 +1,8 @@
 -- Document 01, "Rounds": finishing is estimate, update, rounds, into three planes. Assumes nothing.
 use mathlib.Core.List.{List}
 use Prim.Native.Nat.{ℕ}
+use Rattle.questions.specs.Settings.{ceiling-of}
+use Rattle.questions.specs.declared.Settings.{Settings}
 use Rattle.turns.specs.Frames.{Planes, planes, Frame, listings, plane-of}
 use Rattle.turns.specs.Operations.{Operation}
 use Rattle.estimate.specs.Estimates.{estimate}
@@ -14,10 +16,10 @@ updated top w h l mosaic r c = planes (first r c .red) (update top w h l (λ i j
     first : ℕ → ℕ → Planes ℕ
     first = estimate top w h l mosaic
 
--- and n rounds of them
-unfoldable pub finish : ℕ → ℕ → ℕ → Operation ℕ (Planes ℕ)
-finish top n threshold w h l mosaic = rounds top n threshold w h l (λ r c. (mosaic r c, updated top w h l mosaic r c))
+-- and the rounds of them
+unfoldable pub finish : Settings → Operation ℕ (Planes ℕ)
+finish s w h l mosaic = rounds s w h l (λ r c. (mosaic r c, updated (ceiling-of s) w h l mosaic r c))
 
 -- the three finished planes of a frame, row by row
-unfoldable pub finish-lists : ℕ → ℕ → ℕ → Frame → Planes (List ℕ)
-finish-lists top n threshold f = listings (f .width) (f .height) (finish top n threshold (f .width) (f .height) (f .layout) (plane-of 0 (f .width) (f .samples)))
+unfoldable pub finish-lists : Frame → Settings → Planes (List ℕ)
+finish-lists f s = listings (f .width) (f .height) (finish s (f .width) (f .height) (f .layout) (plane-of 0 (f .width) (f .samples)))

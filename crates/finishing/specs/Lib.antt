@@ -1,5 +1,4 @@
 pub mod Finishing
-pub mod Tally
 pub mod Calls
 pub mod Histories
 pub mod Turnings

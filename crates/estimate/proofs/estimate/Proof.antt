@@ -28,10 +28,10 @@ returns : tie.Need-returns
 returns c =
     let t = c .before .estimate-refusal in
     let s = Entry (c .before) in
-    estimate-no (Given s) (Before s) (t .result) (t .ensures) (λ z. omega (arith, c .if1 .taken))
+    estimate-no _ (Given s) (Before s) (t .result) (t .ensures) (λ z. omega (arith, c .if1 .taken))
 
 known : (c : tie.Else1) → let s = Entry (c .before) in Estimable (Given s) (lengths (Before s))
-known c = let t = c .before .estimate-refusal in estimable (Given (Entry (c .before))) _ (t .result) (t .ensures) (omega (arith, c .if1 .left))
+known c = let t = c .before .estimate-refusal in estimable _ (Given (Entry (c .before))) _ (t .result) (t .ensures) (omega (arith, c .if1 .left))
 
 estimate-rows-requires : tie.Need-estimate-rows-requires
 estimate-rows-requires c κs = let k = known (c .before .before .before) in search needs
@@ -51,7 +51,7 @@ returns-2 c =
     let q = c .before .before .before .before .before .before .before .before .before .before .before in
     let s = Entry q in
     let e = c .before .before .before .before .before .before .estimate-rows .ensures in
-    estimate-yes (Given s) (Before s) (q .estimate-refusal .result) (q .estimate-refusal .ensures) (omega (arith, c .before .before .before .before .before .before .before .before .before .before .if1 .left)) _ (λ m. planes (e .0 m) (e .1 .0 m) (e .1 .1 m))
+    estimate-yes _ (Given s) (Before s) (q .estimate-refusal .result) (q .estimate-refusal .ensures) (omega (arith, c .before .before .before .before .before .before .before .before .before .before .if1 .left)) _ (λ m. planes (e .0 m) (e .1 .0 m) (e .1 .1 m))
 
 pub estimate-spec : {M : Type 1} → statement M
 estimate-spec =

@@ -1,20 +1,13 @@
 -- `finishing::fill_planes` meets its contract: the three calls, each given what the one before it left.
 -- Assumes nothing.
-use mathlib.Core.List.{List}
-use Prim.Native.Nat.{ℕ}
 use denote.Ref.{now}
-use Rattle.turns.specs.Frames.{Frame, frame, Planes, planes}
+use Rattle.questions.specs.Settings.{ceiling-of}
+use Rattle.turns.specs.Frames.{frame}
+use Rattle.work_buffer.specs.Lent.{lent}
 use Rattle.finishing.proofs.Parts.{parts-leave}
 use borrow.Author.Needs.{needs}
 use Rattle.finishing.proofs.fill_planes.Statement.{statement}
 use Rattle.finishing.proofs.fill_planes.Tie as tie
-
--- what was given
-abbrev Given : tie.Start → Frame
-Given s = let a = s .args in frame (a .width) (a .height) (a .layout) (now (a .mosaic))
-
-abbrev Three : tie.Start → Planes (List ℕ)
-Three s = let a = s .args in planes (now (a .red)) (now (a .green)) (now (a .blue))
 
 estimate-requires : tie.Need-estimate-requires
 estimate-requires c κs = search needs
@@ -37,13 +30,17 @@ same-length-3 c = search needs
 same-length-4 : tie.Need-same-length-4
 same-length-4 c = search needs
 
+-- the estimate's and the update's ceiling is the one of these settings
 returns : tie.Need-returns
+unfolding ceiling-of
 returns c =
     let third = c .before .before .before .before .before in
     let second = third .before .before .before .before .before .before .before .before in
     let first = second .before .before .before .before .before .before .before .before .before in
     let s = first .before .before .before .before .before .before .before .before in
-    parts-leave (Given s) (s .args .round-count) (s .args .threshold) (Three s) (now (s .args .work)) (s .pre) (first .estimate .ensures) (second .update .ensures) (third .rounds .ensures)
+    let a = s .args in
+    parts-leave (frame (a .width) (a .height) (a .layout) (now (a .mosaic))) (a .given) (lent (now (a .red)) (now (a .green)) (now (a .blue)) (now (a .work))) (s .pre)
+    (first .estimate .ensures) (second .update .ensures) (third .rounds .ensures)
 
 pub fill-planes-spec : {M : Type 1} → statement M
 fill-planes-spec =

@@ -1,9 +1,9 @@
--- `finishing::Tally::next` meets its contract: count by count.
+-- `Tally::next` meets its contract: count by count.
 -- Assumes nothing.
-use Rattle.finishing.specs.Tally.{tally}
+use Rattle.tally.specs.Tally.{tally}
 use borrow.Author.Needs.{needs}
-use Rattle.finishing.proofs.Tally.next.Statement.{statement}
-use Rattle.finishing.proofs.Tally.next.Tie as tie
+use Rattle.tally.proofs.Tally.next.Statement.{statement}
+use Rattle.tally.proofs.Tally.next.Tie as tie
 
 finished-after-requires : tie.Need-finished-after-requires
 finished-after-requires c κs = search needs

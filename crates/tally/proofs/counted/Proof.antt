@@ -1,9 +1,9 @@
--- `finishing::counted` meets its contract.
+-- `tally::counted` meets its contract.
 -- Assumes nothing.
 use native.Mathlib.Omega.{arith}
 use borrow.Author.Needs.{needs}
-use Rattle.finishing.proofs.counted.Statement.{statement}
-use Rattle.finishing.proofs.counted.Tie as tie
+use Rattle.tally.proofs.counted.Statement.{statement}
+use Rattle.tally.proofs.counted.Tie as tie
 
 sub-left : tie.Need-sub-left
 sub-left c = search needs

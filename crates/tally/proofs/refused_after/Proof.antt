@@ -1,10 +1,10 @@
--- `finishing::refused_after` meets its contract.
+-- `tally::refused_after` meets its contract.
 -- Assumes nothing.
 use mathlib.Core.Path.{_∙_}
-use Rattle.finishing.proofs.Counting.{refused-yes, refused-no}
+use Rattle.tally.proofs.Counting.{refused-yes, refused-no}
 use borrow.Author.Needs.{needs}
-use Rattle.finishing.proofs.refused_after.Statement.{statement}
-use Rattle.finishing.proofs.refused_after.Tie as tie
+use Rattle.tally.proofs.refused_after.Statement.{statement}
+use Rattle.tally.proofs.refused_after.Tie as tie
 
 returns : tie.Need-returns
 returns c = refused-yes _ _ (c .if1 .taken)

@@ -1,10 +1,10 @@
--- `finishing::finished_after` meets its contract.
+-- `tally::finished_after` meets its contract.
 -- Assumes nothing.
 use mathlib.Core.Path.{_∙_}
-use Rattle.finishing.proofs.Counting.{finished-yes, finished-no}
+use Rattle.tally.proofs.Counting.{finished-yes, finished-no}
 use borrow.Author.Needs.{needs}
-use Rattle.finishing.proofs.finished_after.Statement.{statement}
-use Rattle.finishing.proofs.finished_after.Tie as tie
+use Rattle.tally.proofs.finished_after.Statement.{statement}
+use Rattle.tally.proofs.finished_after.Tie as tie
 
 counted-requires : tie.Need-counted-requires
 counted-requires c κs = search needs

@@ -1,10 +1,10 @@
--- `finishing::rounds_after` meets its contract.
+-- `tally::rounds_after` meets its contract.
 -- Assumes nothing.
 use mathlib.Core.Path.{_∙_}
-use Rattle.finishing.proofs.Counting.{rounds-yes, rounds-no}
+use Rattle.tally.proofs.Counting.{rounds-yes, rounds-no}
 use borrow.Author.Needs.{needs}
-use Rattle.finishing.proofs.rounds_after.Statement.{statement}
-use Rattle.finishing.proofs.rounds_after.Tie as tie
+use Rattle.tally.proofs.rounds_after.Statement.{statement}
+use Rattle.tally.proofs.rounds_after.Tie as tie
 
 counted-requires : tie.Need-counted-requires
 counted-requires c κs = search needs

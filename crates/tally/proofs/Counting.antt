@@ -1,15 +1,11 @@
 -- The laws of the tally: each count after a call, and after every list of calls from zero. Assumes nothing.
-use mathlib.Core.Path.{_≡_, refl, sym, _∙_, ap, subst}
+use mathlib.Core.Path.{_≡_, refl, sym, _∙_, ap}
 use mathlib.Core.List.{List, [], _∷_}
 use Prim.Native.Nat.{ℕ, zero, suc, _+_, _≤_}
 use native.Mathlib.Nat.{zero-add}
 use native.Mathlib.Omega.{arith}
-use Rattle.questions.specs.Questions.{ask}
-use Rattle.questions.specs.Answers.{if-accepted}
-use Rattle.finishing.specs.Tally.{largest-count, stopped, finished-after, refused-after, rounds-after, tally, zero-tally, next-tally}
-use Rattle.finishing.specs.Calls.{questions-of, tally-of-answer}
-use Rattle.finishing.specs.Histories.{FinishRun, FinishHistory, last-tally, accepted-calls, refused-calls, accepted-rounds, history-tally}
-use Rattle.finishing.specs.declared.Tally.{Tally}
+use Rattle.tally.specs.Tally.{largest-count, stopped, finished-after, refused-after, rounds-after, tally, zero-tally, next-tally, Counted, tally-after, if-zero, accepted-calls, refused-calls, accepted-rounds, own-count}
+use Rattle.tally.specs.declared.Tally.{Tally}
 
 -- ---- a count after a call that answered n
 module _ (before n : ℕ) where
@@ -60,28 +56,25 @@ stopped-twice a m b = omega arith
 next-counts : (n rounds x y z : ℕ) (t : Tally)
     → let u = next-tally n rounds t in
     tally (stopped (u .finished + x)) (stopped (u .refused + y)) (stopped (u .rounds + z))
-    ≡ tally (stopped (t .finished + (elim n [ zero ↦ 1 | suc k ↦ 0 ] + x))) (stopped (t .refused + (elim n [ zero ↦ 0 | suc k ↦ 1 ] + y))) (stopped (t .rounds + (elim n [ zero ↦ rounds | suc k ↦ 0 ] + z)))
+    ≡ tally (stopped (t .finished + (if-zero n 1 0 + x))) (stopped (t .refused + (if-zero n 0 1 + y))) (stopped (t .rounds + (if-zero n rounds 0 + z)))
 unfolding finished-after refused-after rounds-after
 next-counts zero rounds x y z t = λ i. tally (stopped-twice (t .finished) 1 x i) (stopped (t .refused + sym (zero-add y) i)) (stopped-twice (t .rounds) rounds z i)
 next-counts (suc n) rounds x y z t = λ i. tally (stopped (t .finished + sym (zero-add x) i)) (stopped-twice (t .refused) 1 y i) (stopped (t .rounds + sym (zero-add z) i))
 
 -- from any tally on
-counted-from : (t : Tally) → Counts t → (runs : List FinishRun) → FinishHistory t runs
-    → last-tally t runs ≡ tally (stopped (t .finished + accepted-calls runs)) (stopped (t .refused + refused-calls runs)) (stopped (t .rounds + accepted-rounds runs))
-unfolding accepted-calls refused-calls accepted-rounds if-accepted
-counted-from t c [] h = λ i. tally (same (t .finished) (c .finished) i) (same (t .refused) (c .refused) i) (same (t .rounds) (c .rounds) i)
+counted-from : (t : Tally) → Counts t → (calls : List Counted)
+    → tally-after t calls ≡ tally (stopped (t .finished + accepted-calls calls)) (stopped (t .refused + refused-calls calls)) (stopped (t .rounds + accepted-rounds calls))
+unfolding tally-after accepted-calls refused-calls accepted-rounds
+counted-from t c [] = λ i. tally (same (t .finished) (c .finished) i) (same (t .refused) (c .refused) i) (same (t .rounds) (c .rounds) i)
   where
     same : (n : ℕ) → n ≤ largest-count → n ≡ stopped (n + 0)
     same n b = omega arith
-counted-from t c (run ∷ runs) h =
-    let n = ask (questions-of (run .call)) in
-    let e : tally-of-answer (run .answer) ≡ next-tally n (run .call .rounds) t = h .1 .next ∙ ap (next-tally n (run .call .rounds)) (h .0) in
-    counted-from (tally-of-answer (run .answer)) (subst Counts (sym e) (counts-next n (run .call .rounds) t c)) runs (h .2)
-    ∙ (λ i. tally (stopped (e i .finished + accepted-calls runs)) (stopped (e i .refused + refused-calls runs)) (stopped (e i .rounds + accepted-rounds runs)))
-    ∙ next-counts n (run .call .rounds) (accepted-calls runs) (refused-calls runs) (accepted-rounds runs) t
+counted-from t c (call ∷ calls) =
+    counted-from (next-tally (call .number) (call .rounds) t) (counts-next (call .number) (call .rounds) t c) calls
+    ∙ next-counts (call .number) (call .rounds) (accepted-calls calls) (refused-calls calls) (accepted-rounds calls) t
 
 -- The tally over every list of finishing calls from zero is the list's own count: accepted calls, refused calls, the rounds of the accepted
 -- ones, each cut at the largest count.
-pub tally-of-history : (runs : List FinishRun) → FinishHistory zero-tally runs → last-tally zero-tally runs ≡ history-tally runs
-tally-of-history runs h = counted-from zero-tally (record { finished = omega arith; refused = omega arith; rounds = omega arith }) runs h
-    ∙ (λ i. tally (stopped (zero-add (accepted-calls runs) i)) (stopped (zero-add (refused-calls runs) i)) (stopped (zero-add (accepted-rounds runs) i)))
+pub tally-of-list : (calls : List Counted) → tally-after zero-tally calls ≡ own-count calls
+tally-of-list calls = counted-from zero-tally (record { finished = omega arith; refused = omega arith; rounds = omega arith }) calls
+    ∙ (λ i. tally (stopped (zero-add (accepted-calls calls) i)) (stopped (zero-add (refused-calls calls) i)) (stopped (zero-add (accepted-rounds calls) i)))
