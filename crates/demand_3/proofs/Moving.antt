@@ -4,20 +4,23 @@ use mathlib.Core.Bool.{Bool, true, false, cond, not, xor}
 use mathlib.Core.List.{List}
 use Prim.Native.Nat.{ℕ, _+_, _≤_, _<_}
 use native.Mathlib.Numerals.{add-one}
-use lib.IntN.{ℤ}
 use lib.ListN.{length, drop, getD, drop-of-length-le}
 use lib.Seq.{drop-cons}
+use Rattle.questions.specs.Answers.{number-of-answer}
+use Rattle.questions.specs.declared.Settings.{Settings}
+use Rattle.questions.specs.declared.Answer.{Answer}
 use Rattle.questions.proofs.Answering.{left-no, left-yes}
-use Rattle.turns.specs.Frames.{Frame, frame, Planes, turn-frame}
+use Rattle.turns.specs.Frames.{Frame, frame, turn-frame}
 use Rattle.turns.specs.Turning.{frame-questions, TurnResult}
 use Rattle.turns.specs.declared.TurnedFrame.{TurnedFrame}
 use Rattle.turns.specs.declared.TurnedFrame.the-variants.{Accepted, Refused}
-use Rattle.finishing.specs.Tally.{zero-tally}
-use Rattle.finishing.specs.Calls.{finish-call, FinishNumber}
+use Rattle.work_buffer.specs.Lent.{Lent, rooms-of}
+use Rattle.finishing.specs.Calls.{FrameResult, FinishNumber}
 use Rattle.finishing.specs.Turnings.{turned-planes}
+use Rattle.finishing.proofs.Calls.{frame-number}
 use Rattle.finishing.proofs.Demand3.{leaves-turned, finished-alike}
 use Rattle.demand_3.specs.Between.{Between, between, first-holds, second-holds, turned-once, turned-all}
-use Rattle.demand_3.specs.Alike.{stands, Moved, Lent, FinishedAlike}
+use Rattle.demand_3.specs.Alike.{stands, Moved, FinishedAlike}
 use Rattle.demand_3.specs.declared.Standing.{Standing}
 use Rattle.demand_3.proofs.Histories.{runs-of, history-of, standing-of, taken-of}
 
@@ -106,11 +109,10 @@ unfolding turned-all
 all-done ts k h {b} p = sym (ap (λ (l : List ℕ). turned-all l b) (drop-of-length-le ts h)) ∙ p
 
 -- ---- finished from the mosaic where the frame stands
-pub finished-standing : (at : Standing) (first second : List ℕ) {s : Bool} → at .swapped ≡ s → {rounds threshold n : ℕ} {before after : Planes (List ℕ)} {work work-after : List ℤ}
-    → FinishNumber (finish-call (frame (at .width) (at .height) (at .layout) (cond s second first)) rounds threshold zero-tally before work) n after work-after
-    → FinishNumber (finish-call (stands at first second .frame) rounds threshold zero-tally before work) n after work-after
-finished-standing at first second e {rounds} {threshold} {n} {before} {after} {work} {work-after} q =
-    subst (λ (s : Bool). FinishNumber (finish-call (frame (at .width) (at .height) (at .layout) (cond s second first)) rounds threshold zero-tally before work) n after work-after) (sym e) q
+pub finished-standing : (at : Standing) (first second : List ℕ) (s : Settings) (before : Lent) {b : Bool} → at .swapped ≡ b → {r : Answer} {after : Lent}
+    → FrameResult (frame (at .width) (at .height) (at .layout) (cond b second first)) s before r after → FrameResult (stands at first second .frame) s before r after
+finished-standing at first second s before e {r} {after} q =
+    subst (λ (b : Bool). FrameResult (frame (at .width) (at .height) (at .layout) (cond b second first)) s before r after) (sym e) q
 
 -- ---- all of it
 first-is : (at : Standing) (first second : List ℕ) → first-holds (stands at first second) ≡ first
@@ -127,24 +129,26 @@ second-is at first second = go (at .swapped)
     go true = refl
     go false = refl
 
-pub run-alike : (turns : List ℕ) (f : Frame) (other : List ℕ) (rounds threshold : ℕ) (before₁ before₂ : Lent) {n₁ n₂ : ℕ} {at : Standing} {first second : List ℕ} {after₁ after₂ : Lent}
-    → FinishNumber (finish-call f rounds threshold zero-tally (before₁ .three) (before₁ .work)) n₁ (after₁ .three) (after₁ .work)
-    → stands at first second ≡ turned-all turns (between f other false)
-    → FinishNumber (finish-call (stands at first second .frame) rounds threshold zero-tally (before₂ .three) (before₂ .work)) n₂ (after₂ .three) (after₂ .work)
-    → FinishedAlike turns f other rounds threshold before₁ before₂ (record { given = n₁; turned = n₂ }) first second after₁ after₂
-run-alike turns f other rounds threshold before₁ before₂ {n₁} {n₂} {at} {first} {second} {after₁} {after₂} p e q = record {
-  given = p;
+pub run-alike : (turns : List ℕ) (f : Frame) (other : List ℕ) (s : Settings) (before₁ before₂ : Lent) {r₁ r₂ : Answer} {n₁ n₂ : ℕ} {at : Standing} {first second : List ℕ} {after₁ after₂ : Lent}
+    → FrameResult f s before₁ r₁ after₁ → stands at first second ≡ turned-all turns (between f other false) → FrameResult (stands at first second .frame) s before₂ r₂ after₂
+    → n₁ ≡ number-of-answer r₁ → n₂ ≡ number-of-answer r₂
+    → FinishedAlike turns f other s before₁ before₂ (record { given = n₁; turned = n₂ }) first second after₁ after₂
+run-alike turns f other s before₁ before₂ {r₁} {r₂} {n₁} {n₂} {at} {first} {second} {after₁} {after₂} p e q e₁ e₂ = record {
+  given = given;
   turned = stood;
   first-mosaic = sym (first-is at first second) ∙ ap first-holds e;
   second-mosaic = sym (second-is at first second) ∙ ap second-holds e;
-  alike = λ rooms room.
+  alike = λ room.
       subst (λ (ts : List ℕ). (n₁ ≡ n₂) × (n₁ ≡ 0 → after₂ .three ≡ turned-planes ts f (after₁ .three))) (taken-of turns start)
-      (finished-alike f (runs-of turns start) (history-of turns start) rounds threshold rooms room p
-      (subst (λ (g : Frame). FinishNumber (finish-call g rounds threshold zero-tally (before₂ .three) (before₂ .work)) n₂ (after₂ .three) (after₂ .work)) (sym (standing-of turns start)) stood));
+      (finished-alike f (runs-of turns start) (history-of turns start) s before₁ before₂ room given
+      (subst (λ (g : Frame). FinishNumber g s before₂ n₂ after₂) (sym (standing-of turns start)) stood));
 }
   where
     start : Between
     start = between f other false
 
-    stood : FinishNumber (finish-call (turned-all turns start .frame) rounds threshold zero-tally (before₂ .three) (before₂ .work)) n₂ (after₂ .three) (after₂ .work)
-    stood = subst (λ (b : Between). FinishNumber (finish-call (b .frame) rounds threshold zero-tally (before₂ .three) (before₂ .work)) n₂ (after₂ .three) (after₂ .work)) e q
+    given : FinishNumber f s before₁ n₁ after₁
+    given = frame-number f s before₁ p e₁
+
+    stood : FinishNumber (turned-all turns start .frame) s before₂ n₂ after₂
+    stood = subst (λ (b : Between). FinishNumber (b .frame) s before₂ n₂ after₂) e (frame-number (stands at first second .frame) s before₂ q e₂)

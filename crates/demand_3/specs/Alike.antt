@@ -3,11 +3,10 @@ use mathlib.Core.Path.{_≡_}
 use mathlib.Core.Bool.{false, cond, xor}
 use mathlib.Core.List.{List}
 use Prim.Native.Nat.{ℕ}
-use lib.IntN.{ℤ}
-use lib.ListN.{length}
-use Rattle.turns.specs.Frames.{Frame, frame, Planes, lengths}
-use Rattle.finishing.specs.Tally.{zero-tally}
-use Rattle.finishing.specs.Calls.{finish-call, FinishNumber}
+use Rattle.questions.specs.declared.Settings.{Settings}
+use Rattle.turns.specs.Frames.{Frame, frame}
+use Rattle.work_buffer.specs.Lent.{Lent, rooms-of}
+use Rattle.finishing.specs.Calls.{FinishNumber}
 use Rattle.finishing.specs.Turnings.{turned-planes}
 use Rattle.demand_3.specs.Between.{Between, between, first-holds, second-holds, turned-once, turned-all, turns-taken}
 use Rattle.demand_3.specs.declared.Numbers.{Numbers}
@@ -23,21 +22,13 @@ Moved turn at from to r to-after =
     between (frame (r .width) (r .height) (r .layout) (cond (xor (r .swapped) (at .swapped)) to-after from)) (cond (xor (r .swapped) (at .swapped)) from to-after) (r .swapped)
     ≡ turned-once turn (between (frame (at .width) (at .height) (at .layout) from) to (at .swapped))
 
--- what a finishing holds of planes and work
-pub record Lent : Type 0 where
-  pub three : Planes (List ℕ)
-  pub work : List ℤ
-
-abbrev pub lent : Planes (List ℕ) → List ℤ → Lent
-lent three work = record { three = three; work = work }
-
 -- Frame f is finished as given; a list of turning calls takes it back and forth between two mosaics, the second of which held `other`;
--- what stands then is finished. r has both numbers.
-pub record FinishedAlike (turns : List ℕ) (f : Frame) (other : List ℕ) (rounds threshold : ℕ) (before₁ before₂ : Lent) (r : Numbers) (first second : List ℕ) (after₁ after₂ : Lent) : Type 0 where
-  pub given : FinishNumber (finish-call f rounds threshold zero-tally (before₁ .three) (before₁ .work)) (r .given) (after₁ .three) (after₁ .work)
-  pub turned : FinishNumber (finish-call (turned-all turns (between f other false) .frame) rounds threshold zero-tally (before₂ .three) (before₂ .work)) (r .turned) (after₂ .three) (after₂ .work)
+-- what stands then is finished, with the same settings. r has both numbers.
+pub record FinishedAlike (turns : List ℕ) (f : Frame) (other : List ℕ) (s : Settings) (before₁ before₂ : Lent) (r : Numbers) (first second : List ℕ) (after₁ after₂ : Lent) : Type 0 where
+  pub given : FinishNumber f s before₁ (r .given) after₁
+  pub turned : FinishNumber (turned-all turns (between f other false) .frame) s before₂ (r .turned) after₂
   pub first-mosaic : first ≡ first-holds (turned-all turns (between f other false))
   pub second-mosaic : second ≡ second-holds (turned-all turns (between f other false))
-  -- with the same buffer lengths both have the same number, and where they are accepted the planes are turned by the accepted turns
-  pub alike : lengths (before₁ .three) ≡ lengths (before₂ .three) → length (before₁ .work) ≡ length (before₂ .work)
+  -- with the same room in their buffers both have the same number, and where they are accepted the planes are turned by the accepted turns
+  pub alike : rooms-of before₁ ≡ rooms-of before₂
       → (r .given ≡ r .turned) × (r .given ≡ 0 → after₂ .three ≡ turned-planes (turns-taken turns (between f other false)) f (after₁ .three))

@@ -1,13 +1,14 @@
 // Demand 3, run: a frame finished as given, and finished as it stands after a list of turning calls.
-use finishing::Tally;
+use questions::Answer;
+use questions::Settings;
 use turns::Turn;
 use turns::TurnedFrame;
 ghost use mathlib.Core.Path.{_≡_};
-ghost use Rattle.turns.specs.Frames.{frame, planes};
-ghost use Rattle.finishing.specs.Tally.{zero-tally};
-ghost use Rattle.finishing.specs.Calls.{finish-call, FinishNumber};
+ghost use Rattle.turns.specs.Frames.{frame};
+ghost use Rattle.work_buffer.specs.Lent.{lent};
+ghost use Rattle.finishing.specs.Calls.{FrameResult};
 ghost use Rattle.demand_3.specs.Between.{turned-once, turned-all};
-ghost use Rattle.demand_3.specs.Alike.{stands, Moved, lent, FinishedAlike};
+ghost use Rattle.demand_3.specs.Alike.{stands, Moved, FinishedAlike};
 
 // Where the frame stands: its width, height and layout, and whether the second mosaic holds its samples.
 struct Standing {
@@ -73,53 +74,46 @@ fn turn_all(turns: &[u8], start: Standing, first: &mut [u16], second: &mut [u16]
     at
 }
 
-// The finishing call's number, of a frame whose samples this mosaic holds.
-fn finish_number(
-    at: Standing,
-    rounds: u8,
-    threshold: u16,
-    mosaic: &[u16],
-    red: &mut [u16],
-    green: &mut [u16],
-    blue: &mut [u16],
-    work: &mut [i32],
-) -> u32
-    ensures { λ r. ⌜ FinishNumber (finish-call (frame (at .width) (at .height) (at .layout) (now (mosaic .entry))) rounds threshold zero-tally (planes (now (red .entry)) (now (green .entry)) (now (blue .entry))) (now (work .entry))) r (planes (now (red .exit)) (now (green .exit)) (now (blue .exit))) (now (work .exit)) ⌝ }
-{
-    let answer = finishing::finish(
-        at.width,
-        at.height,
-        at.layout,
-        rounds,
-        threshold,
-        mosaic,
-        red,
-        green,
-        blue,
-        work,
-        Tally::zero(),
-    );
-    answer.number()
-}
-
 // The frame finished from the mosaic where it stands.
 fn finish_standing(
     at: Standing,
-    rounds: u8,
-    threshold: u16,
+    settings: Settings,
     first: &[u16],
     second: &[u16],
     red: &mut [u16],
     green: &mut [u16],
     blue: &mut [u16],
     work: &mut [i32],
-) -> u32
-    ensures { λ r. ⌜ FinishNumber (finish-call (stands at (now (first .entry)) (now (second .entry)) .frame) rounds threshold zero-tally (planes (now (red .entry)) (now (green .entry)) (now (blue .entry))) (now (work .entry))) r (planes (now (red .exit)) (now (green .exit)) (now (blue .exit))) (now (work .exit)) ⌝ }
+) -> Answer
+    ensures { λ r. ⌜ FrameResult (stands at (now (first .entry)) (now (second .entry)) .frame) settings (lent (now (red .entry)) (now (green .entry)) (now (blue .entry)) (now (work .entry))) r (lent (now (red .exit)) (now (green .exit)) (now (blue .exit)) (now (work .exit))) ⌝ }
 {
+    let width = at.width;
+    let height = at.height;
+    let layout = at.layout;
     if at.swapped {
-        return finish_number(at, rounds, threshold, second, red, green, blue, work);
+        return finishing::finish_frame(
+            width,
+            height,
+            layout,
+            settings,
+            second,
+            red,
+            green,
+            blue,
+            work,
+        );
     }
-    finish_number(at, rounds, threshold, first, red, green, blue, work)
+    finishing::finish_frame(
+        width,
+        height,
+        layout,
+        settings,
+        first,
+        red,
+        green,
+        blue,
+        work,
+    )
 }
 
 // Finishes the frame in the first mosaic; turns it by these turns, back and forth between the two; finishes what stands then.
@@ -128,8 +122,7 @@ pub fn finish_turned(
     width: usize,
     height: usize,
     layout: u8,
-    rounds: u8,
-    threshold: u16,
+    settings: Settings,
     first: &mut [u16],
     second: &mut [u16],
     red1: &mut [u16],
@@ -141,7 +134,7 @@ pub fn finish_turned(
     blue2: &mut [u16],
     work2: &mut [i32],
 ) -> Numbers
-    ensures { λ r. ⌜ FinishedAlike (now (turns .entry)) (frame width height layout (now (first .entry))) (now (second .entry)) rounds threshold (lent (planes (now (red1 .entry)) (now (green1 .entry)) (now (blue1 .entry))) (now (work1 .entry))) (lent (planes (now (red2 .entry)) (now (green2 .entry)) (now (blue2 .entry))) (now (work2 .entry))) r (now (first .exit)) (now (second .exit)) (lent (planes (now (red1 .exit)) (now (green1 .exit)) (now (blue1 .exit))) (now (work1 .exit))) (lent (planes (now (red2 .exit)) (now (green2 .exit)) (now (blue2 .exit))) (now (work2 .exit))) ⌝ }
+    ensures { λ r. ⌜ FinishedAlike (now (turns .entry)) (frame width height layout (now (first .entry))) (now (second .entry)) settings (lent (now (red1 .entry)) (now (green1 .entry)) (now (blue1 .entry)) (now (work1 .entry))) (lent (now (red2 .entry)) (now (green2 .entry)) (now (blue2 .entry)) (now (work2 .entry))) r (now (first .exit)) (now (second .exit)) (lent (now (red1 .exit)) (now (green1 .exit)) (now (blue1 .exit)) (now (work1 .exit))) (lent (now (red2 .exit)) (now (green2 .exit)) (now (blue2 .exit)) (now (work2 .exit))) ⌝ }
 {
     let start = Standing {
         width,
@@ -149,18 +142,11 @@ pub fn finish_turned(
         layout,
         swapped: false,
     };
-    let given = finish_number(start, rounds, threshold, first, red1, green1, blue1, work1);
+    let given = finish_standing(start, settings, first, second, red1, green1, blue1, work1);
     let at = turn_all(turns, start, first, second);
-    let turned = finish_standing(
-        at,
-        rounds,
-        threshold,
-        first,
-        second,
-        red2,
-        green2,
-        blue2,
-        work2,
-    );
-    Numbers { given, turned }
+    let turned = finish_standing(at, settings, first, second, red2, green2, blue2, work2);
+    Numbers {
+        given: given.number(),
+        turned: turned.number(),
+    }
 }

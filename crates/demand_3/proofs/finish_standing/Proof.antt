@@ -6,8 +6,8 @@ use borrow.Author.Needs.{needs}
 use Rattle.demand_3.proofs.finish_standing.Statement.{statement}
 use Rattle.demand_3.proofs.finish_standing.Tie as tie
 
-finish-number-requires : tie.Need-finish-number-requires
-finish-number-requires c κs = search needs
+finish-frame-requires : tie.Need-finish-frame-requires
+finish-frame-requires c κs = search needs
 
 same-length : tie.Need-same-length
 same-length c = search needs
@@ -23,11 +23,12 @@ same-length-4 c = search needs
 
 returns : tie.Need-returns
 returns c =
-    let a = c .before .before .before .before .before .before .before .before .before .before .before .before .before .before .before .before .before .before .args in
-    finished-standing (a .at) (now (a .first)) (now (a .second)) (c .before .before .before .before .before .before .before .before .before .before .before .before .if1 .taken) (c .before .before .before .before .before .before .before .finish-number .ensures)
+    let done = c .before .before .before .before .before .before .before in
+    let a = done .before .before .before .before .before .before .before .before .before .before .before .args in
+    finished-standing (a .at) (now (a .first)) (now (a .second)) (a .settings) _ (done .before .before .before .before .before .if1 .taken) (done .finish-frame .ensures)
 
-finish-number-requires-2 : tie.Need-finish-number-requires-2
-finish-number-requires-2 c κs = search needs
+finish-frame-requires-2 : tie.Need-finish-frame-requires-2
+finish-frame-requires-2 c κs = search needs
 
 same-length-5 : tie.Need-same-length-5
 same-length-5 c = search needs
@@ -43,20 +44,21 @@ same-length-8 c = search needs
 
 returns-2 : tie.Need-returns-2
 returns-2 c =
-    let a = c .before .before .before .before .before .before .before .before .before .before .before .before .before .before .before .before .before .before .args in
-    finished-standing (a .at) (now (a .first)) (now (a .second)) (c .before .before .before .before .before .before .before .before .before .before .before .before .if1 .left) (c .before .before .before .before .before .before .before .finish-number2 .ensures)
+    let done = c .before .before .before .before .before .before .before in
+    let a = done .before .before .before .before .before .before .before .before .before .before .before .args in
+    finished-standing (a .at) (now (a .first)) (now (a .second)) (a .settings) _ (done .before .before .before .before .before .if1 .left) (done .finish-frame2 .ensures)
 
 pub finish-standing-spec : {M : Type 1} → statement M
 finish-standing-spec =
     tie.close
     (tie.spec
-    finish-number-requires
+    finish-frame-requires
     same-length
     same-length-2
     same-length-3
     same-length-4
     returns
-    finish-number-requires-2
+    finish-frame-requires-2
     same-length-5
     same-length-6
     same-length-7

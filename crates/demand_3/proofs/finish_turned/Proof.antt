@@ -1,21 +1,27 @@
 -- `demand_3::finish_turned` meets its contract: demand 3, with the turning calls that ran.
 -- Assumes nothing.
 use denote.Ref.{now}
-use Rattle.turns.specs.Frames.{frame, planes}
-use Rattle.demand_3.specs.Alike.{lent}
+use Rattle.turns.specs.Frames.{frame}
+use Rattle.work_buffer.specs.Lent.{lent}
 use Rattle.demand_3.proofs.Moving.{run-alike}
 use borrow.Author.Needs.{needs}
 use Rattle.demand_3.proofs.finish_turned.Statement.{statement}
 use Rattle.demand_3.proofs.finish_turned.Tie as tie
 
-finish-number-requires : tie.Need-finish-number-requires
-finish-number-requires c κs = search needs
+finish-standing-requires : tie.Need-finish-standing-requires
+finish-standing-requires c κs = search needs
 
 turn-all-requires : tie.Need-turn-all-requires
 turn-all-requires c κs = search needs
 
-finish-standing-requires : tie.Need-finish-standing-requires
-finish-standing-requires c κs = search needs
+finish-standing-requires-2 : tie.Need-finish-standing-requires-2
+finish-standing-requires-2 c κs = search needs
+
+number-requires : tie.Need-number-requires
+number-requires c κs = search needs
+
+number-requires-2 : tie.Need-number-requires-2
+number-requires-2 c κs = search needs
 
 same-length : tie.Need-same-length
 same-length c = search needs
@@ -49,21 +55,23 @@ same-length-10 c = search needs
 
 returns : tie.Need-returns
 returns c =
-    let second = c .before .before .before .before .before .before .before in
+    let second = c .before .before .before .before .before .before .before .before .before in
     let moved = second .before .before .before .before .before .before .before .before .before .before .before in
     let first = moved .before .before .before .before .before .before .before .before .before .before in
-    let a = first .before .before .before .before .before .before .before .before .before .before .before .before .before .before .before .args in
-    run-alike (now (a .turns)) (frame (a .width) (a .height) (a .layout) (now (a .first))) (now (a .second)) (a .rounds) (a .threshold)
-    (lent (planes (now (a .red1)) (now (a .green1)) (now (a .blue1))) (now (a .work1))) (lent (planes (now (a .red2)) (now (a .green2)) (now (a .blue2))) (now (a .work2)))
-    (first .finish-number .ensures) (moved .turn-all .ensures) (second .finish-standing .ensures)
+    let a = first .before .before .before .before .before .before .before .before .before .before .before .before .before .before .before .before .args in
+    run-alike (now (a .turns)) (frame (a .width) (a .height) (a .layout) (now (a .first))) (now (a .second)) (a .settings)
+    (lent (now (a .red1)) (now (a .green1)) (now (a .blue1)) (now (a .work1))) (lent (now (a .red2)) (now (a .green2)) (now (a .blue2)) (now (a .work2)))
+    (first .finish-standing .ensures) (moved .turn-all .ensures) (second .finish-standing2 .ensures) (c .before .number .ensures) (c .number2 .ensures)
 
 pub finish-turned-spec : {M : Type 1} → statement M
 finish-turned-spec =
     tie.close
     (tie.spec
-    finish-number-requires
-    turn-all-requires
     finish-standing-requires
+    turn-all-requires
+    finish-standing-requires-2
+    number-requires
+    number-requires-2
     same-length
     same-length-2
     same-length-3
