@@ -9,7 +9,8 @@ use lib.Dec.{leb}
 use lib.ListN.{length, getD, take, drop, length-drop}
 use lib.Seq.{length-take-le}
 use borrow.Author.Tests.{le-leb, leb-true, eqb-true}
-use Rattle.questions.specs.Questions.{ask, all-at-most, ceiling, shape-questions, settings-questions, samples-question}
+use Rattle.questions.specs.Questions.{ask, all-at-most, shape-questions, settings-questions, samples-question}
+use Rattle.questions.specs.Settings.{ceiling-of}
 use Rattle.questions.proofs.Asking.{AllYes, all-yes, all-yes-split, Shape, shape-is, ask-yes, ask-zero, ask-first, ask-later}
 use Rattle.questions.proofs.Answering.{answer-no, answer-yes, left-no, left-yes}
 use Rattle.little_endian.specs.Bytes.{number-at}
@@ -23,17 +24,15 @@ use Rattle.packet.specs.declared.ReadPacket.the-variants.{Sound, Refused
 pub record Allowed (f : Fields) : Type 0 where
   pub answers : AllYes (fields-questions f)
   pub shape : Shape (f .width) (f .height) (f .layout)
-  pub rounds : f .rounds ≤ 64
-  pub threshold : f .threshold ≤ ceiling
+  pub rounds : f .settings .rounds ≤ 64
 
 pub allowed : (f : Fields) → AllYes (fields-questions f) → Allowed f
 allowed f y =
-    let p = all-yes-split (shape-questions (f .width) (f .height) (f .layout)) (settings-questions ceiling (f .rounds) (f .threshold)) y in
+    let p = all-yes-split (shape-questions (f .width) (f .height) (f .layout)) (settings-questions (f .settings)) y in
     record {
       answers = y;
       shape = shape-is (f .width) (f .height) (f .layout) (p .0);
-      rounds = leb-true (f .rounds) 64 (p .1 .0);
-      threshold = leb-true (f .threshold) ceiling (p .1 .1 .0);
+      rounds = leb-true (f .settings .rounds) 64 (p .1 .0);
     }
 
 -- of 11, 1, 2, 3, 4, 5, 12 and 13: the store has a packet's length from its first sample on
@@ -64,11 +63,11 @@ located s n e z = located-by s (all-yes (store-questions s) tt n e z)
 -- a sound packet: its samples are at most the ceiling too
 pub record SoundPacket (s : List ℕ) : Type 0 where
   pub at : Located s
-  pub small : all-at-most ceiling (samples-of s) ≡ true
+  pub small : all-at-most (ceiling-of (fields-of s .settings)) (samples-of s) ≡ true
 
 pub sound-by : (s : List ℕ) → AllYes (read-questions s) → SoundPacket s
 sound-by s y =
-    let p = all-yes-split (store-questions s) (samples-question ceiling (samples-of s) ∷ []) y in
+    let p = all-yes-split (store-questions s) (samples-question (ceiling-of (fields-of s .settings)) (samples-of s) ∷ []) y in
     record { at = located-by s (p .0); small = p .1 .0 }
 
 pub sound : (s : List ℕ) (n : ℕ) → n ≡ ask (read-questions s) → n ≡ 0 → SoundPacket s
@@ -87,11 +86,11 @@ filling s room n e z =
 -- ---- the trailer and the part, as the code reads them
 module _ (s : List ℕ) (t : ℕ) (e : t ≡ trailer-place s) where
   pub fields-are : (w h n : ℕ) → w ≡ number-at 2 s t → h ≡ number-at 2 s (t + 2) → n ≡ number-at 2 s (t + 6)
-      → record { width = w; height = h; layout = getD s (t + 4) 0; rounds = getD s (t + 5) 0; threshold = n } ≡ fields-of s
+      → record { width = w; height = h; layout = getD s (t + 4) 0; settings = record { rounds = getD s (t + 5) 0; threshold = n } } ≡ fields-of s
   unfolding fields-of number-at
   fields-are w h n p q r =
-      (λ j. record { width = p j; height = q j; layout = sym (add-zero (getD s (t + 4) 0)) j; rounds = sym (add-zero (getD s (t + 5) 0)) j; threshold = r j })
-      ∙ (λ j. record { width = number-at 2 s (e j); height = number-at 2 s (e j + 2); layout = number-at 1 s (e j + 4); rounds = number-at 1 s (e j + 5); threshold = number-at 2 s (e j + 6) })
+      (λ j. record { width = p j; height = q j; layout = sym (add-zero (getD s (t + 4) 0)) j; settings = record { rounds = sym (add-zero (getD s (t + 5) 0)) j; threshold = r j } })
+      ∙ (λ j. record { width = number-at 2 s (e j); height = number-at 2 s (e j + 2); layout = number-at 1 s (e j + 4); settings = record { rounds = number-at 1 s (e j + 5); threshold = number-at 2 s (e j + 6) } })
 
   pub distance-is : (d : ℕ) → d ≡ number-at 4 s (t + 8) → d ≡ distance-in s
   distance-is d p = p ∙ ap (λ (i : ℕ). number-at 4 s (i + 8)) e

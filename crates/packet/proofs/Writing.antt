@@ -8,7 +8,8 @@ use lib.ListN.{length, drop, length-append}
 use lib.Seq.{sets, sets-eq}
 use borrow.Author.Tests.{leb-true, eqb-true}
 use Rattle.integers.proofs.Lists.{sets-append}
-use Rattle.questions.specs.Questions.{ask, all-at-most, ceiling}
+use Rattle.questions.specs.Questions.{ask, all-at-most}
+use Rattle.questions.specs.Settings.{ceiling-of}
 use Rattle.questions.proofs.Asking.{all-yes, all-yes-split}
 use Rattle.questions.proofs.Answering.{answer-no, answer-yes, left-no, left-yes}
 use Rattle.little_endian.specs.Bytes.{bytes-of, sample-bytes}
@@ -26,15 +27,15 @@ sets-then l at p q k e f g = g ∙ (λ j. sets (f j) (e j) q) ∙ sets-append l 
 -- the trailer's six numbers, one after another
 pub trailer-stored : (l : List ℕ) (at : ℕ) (f : Fields) (d : ℕ) → d ≡ distance f → {x₁ x₂ x₃ x₄ x₅ x₆ : List ℕ}
     → x₁ ≡ sets l at (bytes-of 2 (f .width)) → x₂ ≡ sets x₁ (at + 2) (bytes-of 2 (f .height)) → x₃ ≡ sets x₂ (at + 4) (bytes-of 1 (f .layout))
-    → x₄ ≡ sets x₃ (at + 5) (bytes-of 1 (f .rounds)) → x₅ ≡ sets x₄ (at + 6) (bytes-of 2 (f .threshold)) → x₆ ≡ sets x₅ (at + 8) (bytes-of 4 d)
+    → x₄ ≡ sets x₃ (at + 5) (bytes-of 1 (f .settings .rounds)) → x₅ ≡ sets x₄ (at + 6) (bytes-of 2 (f .settings .threshold)) → x₆ ≡ sets x₅ (at + 8) (bytes-of 4 d)
     → x₆ ≡ sets l at (trailer f)
 unfolding trailer bytes-of
 trailer-stored l at f d e {x₁} {x₂} {x₃} {x₄} {x₅} {x₆} e₁ e₂ e₃ e₄ e₅ e₆ =
     let W = bytes-of 2 (f .width) in
     let H = bytes-of 2 (f .height) in
     let L = bytes-of 1 (f .layout) in
-    let R = bytes-of 1 (f .rounds) in
-    let T = bytes-of 2 (f .threshold) in
+    let R = bytes-of 1 (f .settings .rounds) in
+    let T = bytes-of 2 (f .settings .threshold) in
     sets-then l at (W ++ (H ++ (L ++ (R ++ T)))) (bytes-of 4 (distance f)) (at + 8) refl
     (sets-then l at (W ++ (H ++ (L ++ R))) T (at + 6) refl
     (sets-then l at (W ++ (H ++ L)) R (at + 5) refl
@@ -47,7 +48,7 @@ trailer-stored l at f d e {x₁} {x₂} {x₃} {x₄} {x₅} {x₆} e₁ e₂ e�
 pub record Writable (f : Fields) (s : List ℕ) (room : ℕ) : Type 0 where
   pub fields : Allowed f
   pub given : length s ≡ f .width * f .height
-  pub small : all-at-most ceiling s ≡ true
+  pub small : all-at-most (ceiling-of (f .settings)) s ≡ true
   pub fit : distance f ≤ room
 
 pub writable : (f : Fields) (s : List ℕ) (room n : ℕ) → n ≡ ask (write-questions f s room) → n ≡ 0 → Writable f s room

@@ -5,7 +5,8 @@ use mathlib.Core.Bool.{cond}
 use mathlib.Core.List.{List, [], _∷_, _++_}
 use lib.Dec.{leb, eqb}
 use lib.ListN.{length, drop}
-use Rattle.questions.specs.Questions.{Question, question, ceiling, frame-questions, samples-question}
+use Rattle.questions.specs.Questions.{Question, question, frame-questions, samples-question}
+use Rattle.questions.specs.Settings.{ceiling-of}
 use Rattle.questions.specs.Answers.{Answered, if-accepted}
 use Rattle.packet.specs.Packet.{distance, packet, fields-of, distance-in, sample-part, samples-of, repeats}
 use Rattle.packet.specs.declared.Fields.{Fields}
@@ -19,7 +20,7 @@ use Rattle.packet.specs.declared.Repeat.the-variants as repeat
 -- ---- the questions, in document 01's order
 -- 1, 2, 3, 4, 5
 abbrev pub fields-questions : Fields → List Question
-fields-questions f = frame-questions ceiling (f .width) (f .height) (f .layout) (f .rounds) (f .threshold)
+fields-questions f = frame-questions (f .width) (f .height) (f .layout) (f .settings)
 
 -- 12 distance equal to 2·w·h + 12, 13 distance within the store, which has `held` bytes
 abbrev pub distance-questions : ℕ → Fields → ℕ → List Question
@@ -32,11 +33,11 @@ store-questions store =
 
 -- the reader: 11, 1, 2, 3, 4, 5, 12, 13, 9
 abbrev pub read-questions : List ℕ → List Question
-read-questions store = store-questions store ++ (samples-question ceiling (samples-of store) ∷ [])
+read-questions store = store-questions store ++ (samples-question (ceiling-of (fields-of store .settings)) (samples-of store) ∷ [])
 
 -- 7 mosaic to fill, of `room`, exactly w·h, 9
 abbrev pub filling-questions : Fields → List ℕ → ℕ → List Question
-filling-questions f samples room = question 7 (eqb room (f .width * f .height)) ∷ samples-question ceiling samples ∷ []
+filling-questions f samples room = question 7 (eqb room (f .width * f .height)) ∷ samples-question (ceiling-of (f .settings)) samples ∷ []
 
 -- reading into a mosaic of `room`: 11, 1, 2, 3, 4, 5, 12, 13, 7, 9
 abbrev pub mosaic-questions : List ℕ → ℕ → List Question
@@ -45,7 +46,7 @@ mosaic-questions store room = store-questions store ++ filling-questions (fields
 -- 6 given samples exactly w·h, 9, 14 buffer of `room` long enough
 abbrev pub writing-questions : Fields → List ℕ → ℕ → List Question
 writing-questions f samples room =
-    question 6 (eqb (length samples) (f .width * f .height)) ∷ samples-question ceiling samples ∷ question 14 (leb (distance f) room) ∷ []
+    question 6 (eqb (length samples) (f .width * f .height)) ∷ samples-question (ceiling-of (f .settings)) samples ∷ question 14 (leb (distance f) room) ∷ []
 
 -- the writer, into a buffer of `room`: 1, 2, 3, 4, 5, 6, 9, 14
 abbrev pub write-questions : Fields → List ℕ → ℕ → List Question

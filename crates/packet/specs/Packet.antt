@@ -16,7 +16,7 @@ distance f = 2 * (f .width * f .height) + 12
 -- width (2), height (2), layout (1), rounds (1), threshold (2), distance back (4)
 unfoldable pub trailer : Fields → List ℕ
 trailer f =
-    bytes-of 2 (f .width) ++ (bytes-of 2 (f .height) ++ (bytes-of 1 (f .layout) ++ (bytes-of 1 (f .rounds) ++ (bytes-of 2 (f .threshold) ++ bytes-of 4 (distance f)))))
+    bytes-of 2 (f .width) ++ (bytes-of 2 (f .height) ++ (bytes-of 1 (f .layout) ++ (bytes-of 1 (f .settings .rounds) ++ (bytes-of 2 (f .settings .threshold) ++ bytes-of 4 (distance f)))))
 
 unfoldable pub packet : Fields → List ℕ → List ℕ
 packet f samples = sample-bytes samples ++ trailer f
@@ -31,8 +31,7 @@ fields-of store = record {
   width = number-at 2 store (trailer-place store);
   height = number-at 2 store (trailer-place store + 2);
   layout = number-at 1 store (trailer-place store + 4);
-  rounds = number-at 1 store (trailer-place store + 5);
-  threshold = number-at 2 store (trailer-place store + 6);
+  settings = record { rounds = number-at 1 store (trailer-place store + 5); threshold = number-at 2 store (trailer-place store + 6) };
 }
 
 abbrev pub distance-in : List ℕ → ℕ

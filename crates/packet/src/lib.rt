@@ -1,20 +1,20 @@
 // Document 01's packet: the reader, the writer and the repeat call.
+use questions::Settings;
 ghost use mathlib.Core.Path.{_≡_};
 ghost use Prim.Native.Nat.{_+_, _*_, _≤_, _<_};
 ghost use mathlib.Core.List.{[], _∷_};
 ghost use lib.ListN.{length};
 ghost use lib.Seq.{sets};
-ghost use Rattle.questions.specs.Questions.{ask, ceiling, samples-question};
+ghost use Rattle.questions.specs.Questions.{ask, samples-question};
 ghost use Rattle.packet.specs.Packet.{distance, trailer, trailer-place, fields-of, distance-in, sample-part, samples-of, same-shape};
-ghost use Rattle.packet.specs.Calls.{fields-questions, store-questions, read-questions, mosaic-questions, write-questions, repeat-questions, ReadResult, part-read, MosaicResult, WriteResult, RepeatResult};
+ghost use Rattle.packet.specs.Calls.{store-questions, read-questions, mosaic-questions, write-questions, repeat-questions, ReadResult, part-read, MosaicResult, WriteResult, RepeatResult};
 
 // Document 01's fields: what a packet's trailer says of its frame.
 pub struct Fields {
     pub width: usize,
     pub height: usize,
     pub layout: u8,
-    pub rounds: u8,
-    pub threshold: u16,
+    pub settings: Settings,
 }
 
 // What the reader answers.
@@ -55,8 +55,10 @@ fn trailer_fields(store: &[u8]) -> Fields
         width: little_endian::two(store, at) as usize,
         height: little_endian::two(store, at + 2) as usize,
         layout: store[at + 4],
-        rounds: store[at + 5],
-        threshold: little_endian::two(store, at + 6),
+        settings: Settings {
+            rounds: store[at + 5],
+            threshold: little_endian::two(store, at + 6),
+        },
     }
 }
 
@@ -68,13 +70,6 @@ fn distance_back(store: &[u8]) -> usize
     little_endian::four(store, trailer_place(store) + 8)
 }
 
-// Questions 1, 2, 3, 4 and 5.
-fn fields_refusal(f: Fields) -> u32
-    ensures { λ r. ⌜ r ≡ ask (fields-questions f) ⌝ }
-{
-    questions::frame(4095, f.width, f.height, f.layout, f.rounds, f.threshold)
-}
-
 // Questions 11, 1, 2, 3, 4, 5, 12 and 13. No sample is looked at.
 fn store_refusal(store: &[u8]) -> u32
     ensures { λ r. ⌜ r ≡ ask (store-questions (now (store .entry))) ⌝ }
@@ -83,7 +78,7 @@ fn store_refusal(store: &[u8]) -> u32
         return 11;
     }
     let f = trailer_fields(store);
-    let number = fields_refusal(f);
+    let number = questions::frame(f.width, f.height, f.layout, f.settings);
     if number != 0 {
         return number;
     }
@@ -108,12 +103,12 @@ fn sample_part(store: &[u8]) -> &[u8]
     &store[first..end]
 }
 
-// Question 9 of the packet's samples.
-fn samples_refusal(store: &[u8]) -> u32
+// Question 9 of the packet's samples, where `top` is the ceiling.
+fn samples_refusal(top: u16, store: &[u8]) -> u32
     requires { ⌜ ask (store-questions (now store)) ≡ 0 ⌝ }
-    ensures { λ r. ⌜ r ≡ ask (samples-question ceiling (samples-of (now (store .entry))) ∷ []) ⌝ }
+    ensures { λ r. ⌜ r ≡ ask (samples-question top (samples-of (now (store .entry))) ∷ []) ⌝ }
 {
-    if little_endian::samples_within(4095, sample_part(store)) {
+    if little_endian::samples_within(top, sample_part(store)) {
         0
     } else {
         9
@@ -128,7 +123,8 @@ pub fn packet_refusal(store: &[u8]) -> u32
     if number != 0 {
         return number;
     }
-    samples_refusal(store)
+    let f = trailer_fields(store);
+    samples_refusal(f.settings.ceiling(), store)
 }
 
 // The reader: the fields of the packet whose end is the store's end.
@@ -165,7 +161,7 @@ fn mosaic_refusal(store: &[u8], room: usize) -> u32
     if room != count {
         return 7;
     }
-    samples_refusal(store)
+    samples_refusal(f.settings.ceiling(), store)
 }
 
 // The packet's samples into a mosaic of exactly as many, and its fields.
@@ -191,8 +187,8 @@ fn put_trailer(f: Fields, back: usize, out: &mut [u8], at: usize)
     little_endian::put(out, at, 2, f.width);
     little_endian::put(out, at + 2, 2, f.height);
     little_endian::put(out, at + 4, 1, f.layout as usize);
-    little_endian::put(out, at + 5, 1, f.rounds as usize);
-    little_endian::put(out, at + 6, 2, f.threshold as usize);
+    little_endian::put(out, at + 5, 1, f.settings.rounds as usize);
+    little_endian::put(out, at + 6, 2, f.settings.threshold as usize);
     little_endian::put(out, at + 8, 4, back);
 }
 
@@ -200,7 +196,7 @@ fn put_trailer(f: Fields, back: usize, out: &mut [u8], at: usize)
 fn write_refusal(f: Fields, samples: &[u16], room: usize) -> u32
     ensures { λ r. ⌜ r ≡ ask (write-questions f (now (samples .entry)) room) ⌝ }
 {
-    let number = fields_refusal(f);
+    let number = questions::frame(f.width, f.height, f.layout, f.settings);
     if number != 0 {
         return number;
     }
@@ -209,7 +205,8 @@ fn write_refusal(f: Fields, samples: &[u16], room: usize) -> u32
         return 6;
     }
     let length = 2 * count + 12;
-    let within = questions::samples_within(4095, samples);
+    let top = f.settings.ceiling();
+    let within = questions::samples_within(top, samples);
     if !within {
         return 9;
     }

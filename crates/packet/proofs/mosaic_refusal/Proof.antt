@@ -1,10 +1,14 @@
 -- `packet::mosaic_refusal` meets its contract: the questions before the samples, then 7 and 9.
 -- Assumes nothing.
-use mathlib.Core.Path.{sym, subst}
+use mathlib.Core.Path.{sym, ap, _∙_, subst}
+use mathlib.Core.List.{[], _∷_}
+use Prim.Native.Nat.{ℕ}
 use native.Mathlib.Omega.{arith}
 use denote.Ref.{now}
 use borrow.Author.Tests.{eq-eqb}
+use Rattle.questions.specs.Questions.{ask, samples-question}
 use Rattle.questions.proofs.Asking.{asking, ask-first, ask-yes}
+use Rattle.packet.specs.Packet.{samples-of}
 use Rattle.packet.specs.Calls.{store-questions}
 use Rattle.packet.specs.declared.Fields.{Fields}
 use Rattle.packet.proofs.Stores.{Allowed, Located, located, mosaic-rest}
@@ -36,14 +40,19 @@ returns-2 c =
     let e = t .before in
     mosaic-rest (now (e .before .before .before .args .store)) _ _ (e .before .store-refusal .ensures) (e .if1 .left) _ (t .trailer-fields .ensures) _ (search asking)
 
+ceiling-requires : tie.Need-ceiling-requires
+ceiling-requires c κs = search needs
+
 samples-refusal-requires : tie.Need-samples-refusal-requires
 samples-refusal-requires c κs = search needs
 
 returns-3 : tie.Need-returns-3
 returns-3 c =
-    let t = c .before .before .before in
+    let t = c .before .before .before .before in
     let e = t .before in
-    mosaic-rest (now (e .before .before .before .args .store)) _ _ (e .before .store-refusal .ensures) (e .if1 .left) _ (t .trailer-fields .ensures) _ (ask-yes _ _ _ _ (eq-eqb _ _ (c .before .if2 .left)) (c .samples-refusal .ensures))
+    let s = now (e .before .before .before .args .store) in
+    mosaic-rest s _ _ (e .before .store-refusal .ensures) (e .if1 .left) _ (t .trailer-fields .ensures) _
+    (ask-yes _ _ _ _ (eq-eqb _ _ (c .before .before .if2 .left)) (c .samples-refusal .ensures ∙ ap (λ (top : ℕ). ask (samples-question top (samples-of s) ∷ [])) (c .before .ceiling .ensures)))
 
 pub mosaic-refusal-spec : {M : Type 1} → statement M
 mosaic-refusal-spec =
@@ -54,5 +63,6 @@ mosaic-refusal-spec =
     trailer-fields-requires
     mul-count
     returns-2
+    ceiling-requires
     samples-refusal-requires
     returns-3)

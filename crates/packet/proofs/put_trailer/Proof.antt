@@ -59,7 +59,13 @@ add-put-5 c =
     record { fits = omega (arith, r) }
 
 put-requires-6 : tie.Need-put-requires-6
-put-requires-6 c κs = search needs
+put-requires-6 c κs =
+    let p₅ = c .before .before .before in
+    let p₄ = p₅ .before .before .before .before .before in
+    let p₃ = p₄ .before .before .before .before .before in
+    let p₂ = p₃ .before .before .before .before .before in
+    let p₁ = p₂ .before .before .before .before in
+    omega (arith, p₁ .before .before .before .pre .0, p₁ .put .kept .0, p₂ .put2 .kept .0, p₃ .put3 .kept .0, p₄ .put4 .kept .0, p₅ .put5 .kept .0)
 
 same-length : tie.Need-same-length
 same-length c = search needs

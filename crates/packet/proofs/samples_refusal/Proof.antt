@@ -4,7 +4,7 @@ use mathlib.Core.Path.{_≡_, sym, ap, _∙_}
 use mathlib.Core.List.{List}
 use Prim.Native.Nat.{ℕ}
 use denote.Ref.{now}
-use Rattle.questions.specs.Questions.{all-at-most, ceiling}
+use Rattle.questions.specs.Questions.{all-at-most}
 use Rattle.questions.proofs.Asking.{ask-no, ask-yes, ask-end}
 use Rattle.little_endian.specs.Bytes.{samples-in}
 use Rattle.packet.specs.Packet.{samples-of}
@@ -19,8 +19,10 @@ samples-within-requires : tie.Need-samples-within-requires
 samples-within-requires c κs = search needs
 
 -- what the scan says of the store
-scanned : (c : tie.After-samples-within) → c .samples-within .result ≡ all-at-most ceiling (samples-of (now (c .before .before .before .args .store)))
-scanned c = c .samples-within .ensures ∙ ap (λ (l : List ℕ). all-at-most ceiling (samples-in l)) (c .before .sample-part .ensures)
+scanned : (c : tie.After-samples-within) → let a = c .before .before .before .args in c .samples-within .result ≡ all-at-most (a .top) (samples-of (now (a .store)))
+scanned c =
+    let a = c .before .before .before .args in
+    c .samples-within .ensures ∙ ap (λ (l : List ℕ). all-at-most (a .top) (samples-in l)) (c .before .sample-part .ensures)
 
 returns : tie.Need-returns
 returns c = ask-yes _ _ _ _ (sym (scanned (c .before)) ∙ c .if1 .taken) ask-end

@@ -19,18 +19,18 @@ returns c = search asking
 trailer-fields-requires : tie.Need-trailer-fields-requires
 trailer-fields-requires c κs = search needs
 
-fields-refusal-requires : tie.Need-fields-refusal-requires
-fields-refusal-requires c κs = search needs
+frame-requires : tie.Need-frame-requires
+frame-requires c κs = search needs
 
 returns-2 : tie.Need-returns-2
 returns-2 c =
     let t = c .before .before in
-    store-first (now (t .before .before .before .args .store)) (t .trailer-fields .result) (t .trailer-fields .ensures) _ (c .before .fields-refusal .ensures) (omega arith) (c .if2 .taken)
+    store-first (now (t .before .before .before .args .store)) (t .trailer-fields .result) (t .trailer-fields .ensures) _ (c .before .frame .ensures) (omega arith) (c .if2 .taken)
 
 known : (c : tie.Else2) → Allowed (c .before .before .trailer-fields .result)
 known c =
     let f = c .before .before .trailer-fields .result in
-    allowed f (all-yes (fields-questions f) tt _ (c .before .fields-refusal .ensures) (c .if2 .left))
+    allowed f (all-yes (fields-questions f) tt _ (c .before .frame .ensures) (c .if2 .left))
 
 mul-length : tie.Need-mul-length
 mul-length c = let k = known (c .before) in record { fits = omega (arith, k .shape .area) }
@@ -52,7 +52,7 @@ rest : (c : tie.After-distance-back) (m : ℕ)
 rest c m r =
     let e = c .before .before in
     let t = e .before .before in
-    store-rest (now (t .before .before .before .args .store)) (t .trailer-fields .result) (t .trailer-fields .ensures) _ (e .before .fields-refusal .ensures) (omega arith) (e .if2 .left) m _ (c .distance-back .ensures) r
+    store-rest (now (t .before .before .before .args .store)) (t .trailer-fields .result) (t .trailer-fields .ensures) _ (e .before .frame .ensures) (omega arith) (e .if2 .left) m _ (c .distance-back .ensures) r
 
 returns-3 : tie.Need-returns-3
 returns-3 c = rest (c .before) _ (search asking)
@@ -69,7 +69,7 @@ store-refusal-spec =
     (tie.spec
     returns
     trailer-fields-requires
-    fields-refusal-requires
+    frame-requires
     returns-2
     mul-length
     mul-length-2

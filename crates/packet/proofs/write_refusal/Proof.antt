@@ -1,12 +1,13 @@
 -- `packet::write_refusal` meets its contract: the fields' questions, then 6, 9 and 14.
 -- Assumes nothing.
-use mathlib.Core.Path.{_≡_}
+use mathlib.Core.Path.{_≡_, ap, _∙_}
 use mathlib.Core.Bool.{true, false}
 use Prim.Native.Nat.{ℕ}
 use native.Mathlib.Omega.{arith}
 use denote.Ref.{now}
 use Rattle.integers.proofs.Tests.{tested}
-use Rattle.questions.specs.Questions.{ask}
+use Rattle.questions.specs.Settings.{ceiling-of}
+use Rattle.questions.specs.Questions.{ask, all-at-most}
 use Rattle.questions.proofs.Asking.{asking, ask-first, ask-later, all-yes}
 use Rattle.packet.specs.Calls.{fields-questions, writing-questions, write-questions}
 use Rattle.packet.proofs.Stores.{Allowed, allowed}
@@ -14,16 +15,16 @@ use borrow.Author.Needs.{needs}
 use Rattle.packet.proofs.write_refusal.Statement.{statement}
 use Rattle.packet.proofs.write_refusal.Tie as tie
 
-fields-refusal-requires : tie.Need-fields-refusal-requires
-fields-refusal-requires c κs = search needs
+frame-requires : tie.Need-frame-requires
+frame-requires c κs = search needs
 
 returns : tie.Need-returns
-returns c = ask-first (fields-questions (c .before .before .before .args .f)) _ _ (c .before .fields-refusal .ensures) (c .if1 .taken)
+returns c = ask-first (fields-questions (c .before .before .before .args .f)) _ _ (c .before .frame .ensures) (c .if1 .taken)
 
 known : (c : tie.Else1) → Allowed (c .before .before .before .args .f)
 known c =
     let f = c .before .before .before .args .f in
-    allowed f (all-yes (fields-questions f) tt _ (c .before .fields-refusal .ensures) (c .if1 .left))
+    allowed f (all-yes (fields-questions f) tt _ (c .before .frame .ensures) (c .if1 .left))
 
 -- 6, 9 and 14
 rest : (c : tie.Else1) (m : ℕ)
@@ -43,34 +44,45 @@ mul-length c = search needs
 add-length : tie.Need-add-length
 add-length c = search needs
 
+ceiling-requires : tie.Need-ceiling-requires
+ceiling-requires c κs = search needs
+
 samples-within-requires : tie.Need-samples-within-requires
 samples-within-requires c κs = search needs
 
+-- what the scan says of the samples
+scanned : (c : tie.After-samples-within)
+    → let a = c .before .before .before .before .before .before .before .args in c .samples-within .result ≡ all-at-most (ceiling-of (a .f .settings)) (now (a .samples))
+scanned c =
+    let a = c .before .before .before .before .before .before .before .args in
+    c .samples-within .ensures ∙ ap (λ (top : ℕ). all-at-most top (now (a .samples))) (c .before .ceiling .ensures)
+
 returns-3 : tie.Need-returns-3
 returns-3 c =
-    let above = tested true (c .before .samples-within .ensures) (c .if3 .taken) in
-    rest (c .before .before .before .before) _ (search asking)
+    let above = tested true (scanned (c .before)) (c .if3 .taken) in
+    rest (c .before .before .before .before .before) _ (search asking)
 
 returns-4 : tie.Need-returns-4
 returns-4 c =
-    let within = tested false (c .before .before .samples-within .ensures) (c .before .if3 .left) in
-    rest (c .before .before .before .before .before) _ (search asking)
+    let within = tested false (scanned (c .before .before)) (c .before .if3 .left) in
+    rest (c .before .before .before .before .before .before) _ (search asking)
 
 returns-5 : tie.Need-returns-5
 returns-5 c =
-    let within = tested false (c .before .before .samples-within .ensures) (c .before .if3 .left) in
-    rest (c .before .before .before .before .before) _ (search asking)
+    let within = tested false (scanned (c .before .before)) (c .before .if3 .left) in
+    rest (c .before .before .before .before .before .before) _ (search asking)
 
 pub write-refusal-spec : {M : Type 1} → statement M
 write-refusal-spec =
     tie.close
     (tie.spec
-    fields-refusal-requires
+    frame-requires
     returns
     mul-count
     returns-2
     mul-length
     add-length
+    ceiling-requires
     samples-within-requires
     returns-3
     returns-4
