@@ -65,7 +65,7 @@ pub(crate) fn fields(f: Fields) {
     number(f.width);
     spaced(f.height);
     spaced(f.layout as usize);
-    spaced(f.rounds as usize);
-    spaced(f.threshold as usize);
+    spaced(f.settings.rounds as usize);
+    spaced(f.settings.threshold as usize);
     end_line();
 }

@@ -2,6 +2,7 @@
 use crate::print;
 use packet::Fields;
 use packet::WrittenPacket;
+use questions::Settings;
 ghost use Prim.Native.Nat.{_≤_};
 
 fn written(answer: WrittenPacket) {
@@ -35,8 +36,7 @@ fn fields(width: usize, height: usize, layout: u8, rounds: u8, threshold: u16) -
         width,
         height,
         layout,
-        rounds,
-        threshold,
+        settings: Settings { rounds, threshold },
     }
 }
 
