@@ -2,19 +2,21 @@
 -- again is the same bytes. Laws of the definitions, and of what the calls answer. Assumes nothing.
 use Prim.Native.Nat.{ℕ, _+_, _*_, _-_, _^_, _≤_, _<_}
 use mathlib.Core.Path.{_≡_, refl, sym, ap, _∙_, subst}
+use mathlib.Core.Bool.{true}
 use mathlib.Core.List.{List, [], _∷_, _++_, append-assoc, append-nil}
 use native.Mathlib.Nat.{add-zero}
 use native.Mathlib.Omega.{arith}
 use lib.ListN.{length, take, drop, length-append, take-append-drop, drop-of-length-le}
 use lib.Seq.{take-at, drop-at, drop-drop}
 use borrow.Author.Tests.{le-leb, eq-eqb}
+use Rattle.integers.proofs.Tests.{true-is}
 use Rattle.questions.specs.Questions.{Question, ask, all-at-most, samples-question}
 use Rattle.questions.specs.Settings.{ceiling-of}
 use Rattle.questions.specs.Answers.{if-accepted}
-use Rattle.questions.proofs.Asking.{AllYes, all-yes-both, ask-zero}
+use Rattle.questions.proofs.Asking.{AllYes, all-yes-both, ask-zero, all-at-most-at, ceiling-fits}
 use Rattle.questions.proofs.Answering.{left-yes}
 use Rattle.little_endian.specs.Bytes.{bytes-of, number-at, sample-bytes, samples-in}
-use Rattle.little_endian.proofs.Bytes.{Below, below-take, below-drop, number-at-drop, number-of-bytes, bytes-of-number}
+use Rattle.little_endian.proofs.Bytes.{Below, below-by, below-take, below-drop, number-at-drop, number-of-bytes, bytes-of-number}
 use Rattle.little_endian.proofs.Samples.{length-sample-bytes, length-samples-in, samples-of-bytes, bytes-of-samples}
 use Rattle.packet.specs.Packet.{distance, trailer, packet, trailer-place, fields-of, distance-in, first-place, sample-part, samples-of}
 use Rattle.packet.specs.Calls.{fields-questions, distance-questions, store-questions, read-questions, filling-questions, mosaic-questions, writing-questions, write-questions, number-of-written, ReadResult, part-read, MosaicResult, WriteResult}
@@ -26,14 +28,13 @@ use Rattle.packet.specs.declared.WrittenPacket.the-variants.{Bytes}
 use Rattle.packet.proofs.Stores.{SoundPacket, sound, filling, length-part}
 use Rattle.packet.proofs.Writing.{Writable, writable, length-packet}
 
--- the threshold and every sample fit two bytes, as the calls' types say
-pub record TwoBytes (f : Fields) (s : List ℕ) : Type 0 where
-  pub threshold : f .settings .threshold < 65536
-  pub samples : Below 65536 s
+-- samples at most a ceiling that fits two bytes fit them too
+fit-two-bytes : (top : ℕ) (s : List ℕ) → top < 65536 → all-at-most top s ≡ true → Below 65536 s
+fit-two-bytes top s h e = below-by 65536 s (omega arith) (λ k i. omega (arith, all-at-most-at top s (true-is e) k i))
 
 -- ---- written, then read
 -- a store: older bytes, and then a packet that the writer accepts
-module _ (older : List ℕ) (f : Fields) (s : List ℕ) (room : ℕ) (k : Writable f s room) (b : TwoBytes f s) where
+module _ (older : List ℕ) (f : Fields) (s : List ℕ) (room : ℕ) (k : Writable f s room) where
   abbrev Store : List ℕ
   Store = older ++ packet f s
 
@@ -67,13 +68,14 @@ module _ (older : List ℕ) (f : Fields) (s : List ℕ) (room : ℕ) (k : Writab
       let height : f .height < 65536 = omega (arith, k .fields .shape .height-to) in
       let layout : f .layout < 256 = omega (arith, k .fields .shape .layout-to) in
       let rounds : f .settings .rounds < 256 = omega (arith, k .fields .rounds) in
+      let threshold : f .settings .threshold < 65536 = omega (arith, k .fields .threshold, ceiling-fits (f .settings)) in
       λ j. record {
         width = (ap (number-at 2 Store) (sym (add-zero (trailer-place Store))) ∙ read-back 2 0 (f .width) _ refl width) j;
         height = read-back 2 2 (f .height) _ refl height j;
         layout = read-back 1 4 (f .layout) _ refl layout j;
         settings = record {
           rounds = read-back 1 5 (f .settings .rounds) _ refl rounds j;
-          threshold = read-back 2 6 (f .settings .threshold) _ refl (b .threshold) j;
+          threshold = read-back 2 6 (f .settings .threshold) _ refl threshold j;
         };
       }
 
@@ -97,7 +99,7 @@ module _ (older : List ℕ) (f : Fields) (s : List ℕ) (room : ℕ) (k : Writab
       count = omega (arith, place, first)
 
   samples-back : samples-of Store ≡ s
-  samples-back = ap samples-in part-back ∙ samples-of-bytes s (b .samples)
+  samples-back = ap samples-in part-back ∙ samples-of-bytes s (fit-two-bytes (ceiling-of (f .settings)) s (ceiling-fits (f .settings)) (k .small))
 
   sound-back : ask (read-questions Store) ≡ 0
   sound-back =
@@ -118,14 +120,14 @@ pub record Reads (store : List ℕ) (f : Fields) (s : List ℕ) : Type 0 where
   pub part : sample-part store ≡ sample-bytes s
   pub samples : samples-of store ≡ s
 
-pub written-reads-back : (older : List ℕ) (f : Fields) (s : List ℕ) (room : ℕ) → TwoBytes f s → ask (write-questions f s room) ≡ 0 → Reads (older ++ packet f s) f s
-written-reads-back older f s room b z =
+pub written-reads-back : (older : List ℕ) (f : Fields) (s : List ℕ) (room : ℕ) → ask (write-questions f s room) ≡ 0 → Reads (older ++ packet f s) f s
+written-reads-back older f s room z =
     let k = writable f s room 0 (sym z) refl in
     record {
-      sound = sound-back older f s room k b;
-      fields = fields-back older f s room k b;
-      part = part-back older f s room k b;
-      samples = samples-back older f s room k b;
+      sound = sound-back older f s room k;
+      fields = fields-back older f s room k;
+      part = part-back older f s room k;
+      samples = samples-back older f s room k;
     }
 
 -- ---- read, then written again
@@ -183,9 +185,9 @@ left : {A : Type 0} (qs : List Question) (new old : A) → ask qs ≡ 0 → if-a
 left qs new old z = sym (left-yes qs new old (ask qs) refl z)
 
 -- The writer accepted a frame: it answered the packet's length, and those first bytes, behind any older ones, are read as that frame.
-pub write-then-read : (f : Fields) (s before after : List ℕ) (w : WrittenPacket) → TwoBytes f s → WriteResult f s before w after → number-of-written w ≡ 0
+pub write-then-read : (f : Fields) (s before after : List ℕ) (w : WrittenPacket) → WriteResult f s before w after → number-of-written w ≡ 0
     → (w ≡ Bytes (distance f)) × ((older : List ℕ) → Reads (older ++ take (distance f) after) f s)
-write-then-read f s before after w b result z = (result .answer .accepted yes, λ older. subst (λ (l : List ℕ). Reads (older ++ l) f s) (sym first) (written-reads-back older f s (length before) b yes))
+write-then-read f s before after w result z = (result .answer .accepted yes, λ older. subst (λ (l : List ℕ). Reads (older ++ l) f s) (sym first) (written-reads-back older f s (length before) yes))
   where
     qs : List Question
     qs = write-questions f s (length before)

@@ -25,6 +25,7 @@ pub record Allowed (f : Fields) : Type 0 where
   pub answers : AllYes (fields-questions f)
   pub shape : Shape (f .width) (f .height) (f .layout)
   pub rounds : f .settings .rounds ≤ 64
+  pub threshold : f .settings .threshold ≤ ceiling-of (f .settings)
 
 pub allowed : (f : Fields) → AllYes (fields-questions f) → Allowed f
 allowed f y =
@@ -33,6 +34,7 @@ allowed f y =
       answers = y;
       shape = shape-is (f .width) (f .height) (f .layout) (p .0);
       rounds = leb-true (f .settings .rounds) 64 (p .1 .0);
+      threshold = leb-true (f .settings .threshold) (ceiling-of (f .settings)) (p .1 .1 .0);
     }
 
 -- of 11, 1, 2, 3, 4, 5, 12 and 13: the store has a packet's length from its first sample on

@@ -7,7 +7,8 @@ use native.Mathlib.Omega.{arith}
 use lib.Dec.{leb}
 use lib.ListN.{length}
 use borrow.Author.Tests.{le-leb, lt-leb, leb-true}
-use Rattle.questions.specs.Questions.{Question, ceiling, ask, all-at-most}
+use Rattle.questions.specs.Settings.{ceiling-of}
+use Rattle.questions.specs.Questions.{Question, ask, all-at-most}
 use Rattle.questions.specs.Answers.{Answered}
 use Rattle.questions.proofs.Asking.{AllYes, all-yes, all-yes-split, ask-end, ask-no, ask-yes, ask-first, ask-later}
 use Rattle.questions.proofs.Answering.{answer-no, answer-yes}
@@ -88,7 +89,7 @@ sound-input s a = sound-by s (known s a .0)
 pub record Finishable (f : Fields) (samples : List ℕ) : Type 0 where
   pub fields : Allowed f
   pub long : length samples ≡ f .width * f .height
-  pub small : all-at-most ceiling samples ≡ true
+  pub small : all-at-most (ceiling-of (f .settings)) samples ≡ true
   pub few : f .width * f .height ≤ 1024
 
 pub finishable : (s : List ℕ) → ask (program-questions s) ≡ 0 → (f : Fields) → f ≡ fields-of s → Finishable f (samples-of s)

@@ -4,15 +4,15 @@ use Prim.Native.Nat.{ℕ, _*_, _≤_}
 use mathlib.Core.Path.{_≡_, refl, sym, ap, _∙_, subst}
 use mathlib.Core.List.{List}
 use native.Mathlib.Omega.{arith}
-use lib.IntN.{ℤ}
 use lib.ListN.{length}
 use lib.Seq.{length-sets}
 use borrow.Author.Tests.{eq-eqb, le-leb}
-use Rattle.questions.specs.Questions.{Question, ceiling, ask}
+use Rattle.questions.specs.Settings.{ceiling-of}
+use Rattle.questions.specs.Questions.{Question, ask}
+use Rattle.questions.specs.declared.Answer.{Answer}
 use Rattle.questions.proofs.Asking.{all-yes-both, ask-zero}
 use Rattle.questions.proofs.Answering.{left-no, left-yes}
-use Rattle.turns.specs.Frames.{Planes, lengths}
-use Rattle.work_buffer.specs.Lent.{buffer-questions}
+use Rattle.work_buffer.specs.Lent.{Lent, rooms-of, buffer-questions}
 use Rattle.packet.specs.Packet.{fields-of, samples-of}
 use Rattle.packet.specs.Calls.{fields-questions, store-questions, filling-questions, mosaic-questions, MosaicResult}
 use Rattle.packet.specs.declared.Fields.{Fields}
@@ -20,11 +20,9 @@ use Rattle.packet.specs.declared.ReadPacket.{ReadPacket}
 use Rattle.packet.specs.declared.ReadPacket.the-variants.{Sound, Refused}
 use Rattle.packet.proofs.Stores.{SoundPacket}
 use Rattle.finishing.specs.Finishing.{finish-lists}
-use Rattle.finishing.specs.Calls.{finish-call, finish-questions, FinishResult}
-use Rattle.finishing.specs.declared.Tally.{Tally}
-use Rattle.finishing.specs.declared.FinishAnswer.{FinishAnswer}
+use Rattle.finishing.specs.Calls.{finish-questions, with-finished, FrameResult}
 use Rattle.printing.specs.Text.{page, refusal, Written}
-use Rattle.program.specs.Program.{program-questions, packet-frame, finished-page, program-text, InputResult, Rooms}
+use Rattle.program.specs.Program.{program-questions, packet-frame, finished-page, program-text, InputResult, Buffers}
 use Rattle.program.proofs.Inputs.{refused-number, sound-fields, sound-input, Finishable, finishable}
 
 -- ---- the program's text, by what reading the input answered
@@ -66,35 +64,33 @@ mosaic-filled s k {mosaic} fit m = m .buffer ∙ sym (left-yes (mosaic-questions
         (all-yes-both (store-questions s) (filling-questions (fields-of s) (samples-of s) (length mosaic)) (k .at .answers) (eq-eqb _ _ fit, (k .small, tt)))
 
 -- its planes are finished
-planes-finished : (f : Fields) (samples : List ℕ) → Finishable f samples
-    → {tally : Tally} {mosaic out : List ℕ} {before after : Planes (List ℕ)} {work work-after : List ℤ} {r : FinishAnswer} → Rooms (f .width * f .height) mosaic before work out
-    → FinishResult (finish-call (packet-frame f samples) (f .rounds) (f .threshold) tally before work) r after work-after
-    → after ≡ finish-lists ceiling (f .rounds) (f .threshold) (packet-frame f samples)
-planes-finished f samples k {before = before} {work = work} room m = m .leaves .three-planes ∙ sym (left-yes qs _ before 0 (sym accepted) refl)
+planes-finished : (f : Fields) (samples : List ℕ) → Finishable f samples → {mosaic out : List ℕ} (before : Lent) {after : Lent} {r : Answer} → Buffers (f .width * f .height) mosaic before out
+    → FrameResult (packet-frame f samples) (f .settings) before r after → after .three ≡ finish-lists (packet-frame f samples) (f .settings)
+planes-finished f samples k before room m =
+    ap (λ (l : Lent). l .three) (m .leaves ∙ sym (left-yes qs (with-finished (packet-frame f samples) (f .settings) before) before 0 (sym accepted) refl))
   where
     qs : List Question
-    qs = finish-questions (packet-frame f samples) (f .rounds) (f .threshold) (lengths before) (length work)
+    qs = finish-questions (packet-frame f samples) (f .settings) (rooms-of before)
 
     accepted : ask qs ≡ 0
     accepted =
         ask-zero qs
-        (all-yes-both (fields-questions f) (buffer-questions (f .width * f .height) samples (lengths before) (length work)) (k .fields .answers)
+        (all-yes-both (fields-questions f) (buffer-questions (ceiling-of (f .settings)) (f .width * f .height) samples (rooms-of before)) (k .fields .answers)
         (eq-eqb _ _ (k .long), (eq-eqb _ _ (room .red-room), (eq-eqb _ _ (room .green-room), (eq-eqb _ _ (room .blue-room), (le-leb _ _ (room .work-room), (k .small, tt)))))))
 
 -- and they are printed
 pub page-printed : (s : List ℕ) → ask (program-questions s) ≡ 0 → (f : Fields) → f ≡ fields-of s
-    → {mosaic filled out out-after : List ℕ} {before after : Planes (List ℕ)} {work work-after : List ℤ} {r : ReadPacket} {tally : Tally} {q : FinishAnswer} {count : ℕ}
-    → Rooms (f .width * f .height) mosaic before work out → MosaicResult s mosaic r filled
-    → FinishResult (finish-call (packet-frame f filled) (f .rounds) (f .threshold) tally before work) q after work-after
-    → Written (page (f .width) (f .height) after) out count out-after → Written (finished-page f (samples-of s)) out count out-after
-page-printed s a f e {filled = filled} {out} {out-after} {before} {after} {work} {work-after} {tally = tally} {q} {count} room m n w =
+    → {mosaic filled out out-after : List ℕ} (before : Lent) {after : Lent} {r : ReadPacket} {q : Answer} {count : ℕ}
+    → Buffers (f .width * f .height) mosaic before out → MosaicResult s mosaic r filled → FrameResult (packet-frame f filled) (f .settings) before q after
+    → Written (page (f .width) (f .height) (after .three)) out count out-after → Written (finished-page f (samples-of s)) out count out-after
+page-printed s a f e {filled = filled} {out} {out-after} before {after} {q = q} {count} room m n w =
     subst (λ (text : List ℕ). Written text out count out-after) text w
   where
     same : filled ≡ samples-of s
     same = mosaic-filled s (sound-input s a) (room .mosaic-room ∙ ap (λ (g : Fields). g .width * g .height) e) m
 
-    finished : FinishResult (finish-call (packet-frame f (samples-of s)) (f .rounds) (f .threshold) tally before work) q after work-after
-    finished = subst (λ (x : List ℕ). FinishResult (finish-call (packet-frame f x) (f .rounds) (f .threshold) tally before work) q after work-after) same n
+    finished : FrameResult (packet-frame f (samples-of s)) (f .settings) before q after
+    finished = subst (λ (x : List ℕ). FrameResult (packet-frame f x) (f .settings) before q after) same n
 
-    text : page (f .width) (f .height) after ≡ finished-page f (samples-of s)
-    text = unfold finished-page in ap (page (f .width) (f .height)) (planes-finished f (samples-of s) (finishable s a f e) room finished)
+    text : page (f .width) (f .height) (after .three) ≡ finished-page f (samples-of s)
+    text = unfold finished-page in ap (page (f .width) (f .height)) (planes-finished f (samples-of s) (finishable s a f e) before room finished)

@@ -4,11 +4,11 @@ use Prim.Native.Nat.{ℕ, _+_, _*_, _≤_}
 use mathlib.Core.Path.{_≡_}
 use mathlib.Core.List.{List, [], _∷_, _++_}
 use lib.Dec.{leb}
-use lib.IntN.{ℤ}
 use lib.ListN.{length}
-use Rattle.questions.specs.Questions.{Question, question, ceiling, ask}
+use Rattle.questions.specs.Questions.{Question, question, ask}
 use Rattle.questions.specs.Answers.{Answered, if-accepted}
-use Rattle.turns.specs.Frames.{Planes, Frame, frame}
+use Rattle.turns.specs.Frames.{Frame, frame}
+use Rattle.work_buffer.specs.Lent.{Lent}
 use Rattle.packet.specs.Packet.{fields-of, samples-of}
 use Rattle.packet.specs.Calls.{read-questions, number-of-read}
 use Rattle.packet.specs.declared.Fields.{Fields}
@@ -33,7 +33,7 @@ packet-frame f samples = frame (f .width) (f .height) (f .layout) samples
 
 -- its finished planes
 unfoldable pub finished-page : Fields → List ℕ → List ℕ
-finished-page f samples = page (f .width) (f .height) (finish-lists ceiling (f .rounds) (f .threshold) (packet-frame f samples))
+finished-page f samples = page (f .width) (f .height) (finish-lists (packet-frame f samples) (f .settings))
 
 -- the program's text, given its input
 unfoldable pub program-text : List ℕ → List ℕ
@@ -46,10 +46,10 @@ abbrev pub InputResult : List ℕ → ReadPacket → Type 0
 InputResult input r = Answered number-of-read (program-questions input) (read.Sound (fields-of input)) r
 
 -- buffers for a frame of `count` samples, and room for its page
-pub record Rooms (count : ℕ) (mosaic : List ℕ) (before : Planes (List ℕ)) (work : List ℤ) (out : List ℕ) : Type 0 where
+pub record Buffers (count : ℕ) (mosaic : List ℕ) (before : Lent) (out : List ℕ) : Type 0 where
   pub mosaic-room : length mosaic ≡ count
-  pub red-room : length (before .red) ≡ count
-  pub green-room : length (before .green) ≡ count
-  pub blue-room : length (before .blue) ≡ count
-  pub work-room : 8 * count ≤ length work
+  pub red-room : length (before .three .red) ≡ count
+  pub green-room : length (before .three .green) ≡ count
+  pub blue-room : length (before .three .blue) ≡ count
+  pub work-room : 8 * count ≤ length (before .work)
   pub page-room : 12 + 18 * count ≤ length out

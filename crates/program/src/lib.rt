@@ -1,14 +1,13 @@
 // Inner: document 01's program on bytes, for `main` alone: the number of its refusal, and its text, which a refusal has too.
-use finishing::Tally;
 use packet::Fields;
 use packet::ReadPacket;
 ghost use mathlib.Core.Path.{_≡_};
 ghost use Prim.Native.Nat.{_*_};
 ghost use Rattle.questions.specs.Questions.{ask};
-ghost use Rattle.turns.specs.Frames.{planes};
+ghost use Rattle.work_buffer.specs.Lent.{lent};
 ghost use Rattle.packet.specs.Packet.{fields-of, samples-of};
 ghost use Rattle.printing.specs.Text.{Written};
-ghost use Rattle.program.specs.Program.{program-questions, finished-page, program-text, InputResult, Rooms};
+ghost use Rattle.program.specs.Program.{program-questions, finished-page, program-text, InputResult, Buffers};
 
 // The reader's answer. 17 refuses more than 4,096 bytes, before the reader, and more than 1,024 samples, after it.
 fn read_input(input: &[u8]) -> ReadPacket
@@ -52,22 +51,21 @@ fn put_planes(
 ) -> usize
     requires { ⌜ ask (program-questions (now input)) ≡ 0 ⌝ }
     requires { ⌜ f ≡ fields-of (now input) ⌝ }
-    requires { ⌜ Rooms (f .width * f .height) (now mosaic) (planes (now red) (now green) (now blue)) (now work) (now out) ⌝ }
+    requires { ⌜ Buffers (f .width * f .height) (now mosaic) (lent (now red) (now green) (now blue) (now work)) (now out) ⌝ }
     ensures { λ r. ⌜ Written (finished-page f (samples-of (now (input .entry)))) (now (out .entry)) r (now (out .exit)) ⌝ }
 {
     packet::read_mosaic(input, mosaic);
-    finishing::finish(
+    let settings = f.settings;
+    finishing::finish_frame(
         f.width,
         f.height,
         f.layout,
-        f.rounds,
-        f.threshold,
+        settings,
         mosaic,
         red,
         green,
         blue,
         work,
-        Tally::zero(),
     );
     printing::put_page(out, f.width, f.height, red, green, blue)
 }

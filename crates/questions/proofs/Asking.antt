@@ -11,6 +11,8 @@ use lib.ListN.{length, getD}
 use borrow.Author.Tests.{le-leb, lt-leb, eq-eqb, ne-eqb, leb-true}
 use Rattle.integers.specs.Lists.{tabulate}
 use Rattle.integers.proofs.Tests.{never, and-left, and-right, both, same-test}
+use Rattle.questions.specs.Settings.{ceiling-of}
+use Rattle.questions.specs.declared.Settings.{Settings}
 use Rattle.questions.specs.Questions.{Question, question, ask, between, all-at-most, shape-questions}
 
 -- ---- at a return
@@ -129,6 +131,11 @@ shape-is w h l y =
       layout-to = leb-true l 3 (y .1 .1 .0);
       area = area-bound (p .1) (q .1);
     }
+
+-- every ceiling fits two bytes
+pub ceiling-fits : (s : Settings) → ceiling-of s < 65536
+unfolding ceiling-of
+ceiling-fits s = omega arith
 
 -- ---- the scan: `most` is the largest of the first k samples
 leb-max : (a b m : ℕ) → leb (max a b) m ≡ (leb a m && leb b m)

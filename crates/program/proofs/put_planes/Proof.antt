@@ -11,11 +11,8 @@ use Rattle.program.proofs.put_planes.Tie as tie
 read-mosaic-requires : tie.Need-read-mosaic-requires
 read-mosaic-requires c κs = search needs
 
-zero-requires : tie.Need-zero-requires
-zero-requires c κs = search needs
-
-finish-requires : tie.Need-finish-requires
-finish-requires c κs = search needs
+finish-frame-requires : tie.Need-finish-frame-requires
+finish-frame-requires c κs = search needs
 
 put-page-requires : tie.Need-put-page-requires
 put-page-requires c κs =
@@ -23,7 +20,7 @@ put-page-requires c κs =
     let filled = finished .before .before .before .before .before .before .before .before .before in
     let s = filled .before .before .before .before .before .before .before .before in
     let k = finishable (now (s .args .input)) (s .pre .0) (s .args .f) (s .pre .1 .0) in
-    let kept = finished .finish .kept .1 .1 .1 .1 .1 .1 in
+    let kept = finished .finish-frame .kept .1 .1 .1 .1 .1 in
     let room = s .pre .1 .1 in
     (omega (arith, k .fields .shape .width-from), omega (arith, room .page-room, room .red-room, room .green-room, room .blue-room, kept .0, kept .1 .0, kept .1 .1 .0))
 
@@ -51,15 +48,14 @@ returns c =
     let finished = printed .before .before .before .before .before .before .before .before .before .before .before .before in
     let filled = finished .before .before .before .before .before .before .before .before .before in
     let s = filled .before .before .before .before .before .before .before .before in
-    page-printed (now (s .args .input)) (s .pre .0) (s .args .f) (s .pre .1 .0) (s .pre .1 .1) (filled .read-mosaic .ensures) (finished .finish .ensures) (printed .put-page .ensures)
+    page-printed (now (s .args .input)) (s .pre .0) (s .args .f) (s .pre .1 .0) _ (s .pre .1 .1) (filled .read-mosaic .ensures) (finished .finish-frame .ensures) (printed .put-page .ensures)
 
 pub put-planes-spec : {M : Type 1} → statement M
 put-planes-spec =
     tie.close
     (tie.spec
     read-mosaic-requires
-    zero-requires
-    finish-requires
+    finish-frame-requires
     put-page-requires
     same-length
     same-length-2
