@@ -24,8 +24,7 @@ struct store {
 
 struct frame {
     size_t width, height;
-    uint8_t layout, rounds;
-    uint16_t threshold;
+    uint32_t layout, rounds, threshold;
 };
 
 /* What a frame needs to be turned and finished. */
@@ -115,11 +114,8 @@ static uint32_t read_frame(const struct store *store, struct frame *frame)
 static uint32_t turn_frame(uint32_t turn, struct frame *frame, struct buffers *b)
 {
     size_t count = frame->width * frame->height;
-    uint32_t layout = frame->layout;
-    uint32_t number = demosaic_turn(turn, frame->width, frame->height, layout, b->given, count, b->mosaic, count,
-                                    &frame->width, &frame->height, &layout);
-    frame->layout = (uint8_t)layout; /* an accepted layout is 0 to 3 */
-    return number;
+    return demosaic_turn(turn, frame->width, frame->height, frame->layout, b->given, count, b->mosaic, count,
+                         &frame->width, &frame->height, &frame->layout);
 }
 
 static uint32_t finish_frame(const struct frame *frame, struct buffers *b)
@@ -131,7 +127,7 @@ static uint32_t finish_frame(const struct frame *frame, struct buffers *b)
 }
 
 /* After every finishing call, and after no other. */
-static void count_finishing(struct tally *tally, uint32_t number, uint8_t rounds)
+static void count_finishing(struct tally *tally, uint32_t number, uint32_t rounds)
 {
     tally->finished = demosaic_tally_finished(tally->finished, number);
     tally->refused = demosaic_tally_refused(tally->refused, number);

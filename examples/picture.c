@@ -20,8 +20,7 @@ struct store {
 
 struct frame {
     size_t width, height, samples;
-    uint8_t layout, rounds;
-    uint16_t threshold;
+    uint32_t layout, rounds, threshold;
     uint16_t *mosaic, *red, *green, *blue;
     int32_t *work;
 };
@@ -127,7 +126,7 @@ static int average(struct frame *frame)
     }
 
     /* Row and column add up to the same parity at every place of red and of blue, and to the other at green's. */
-    size_t parity = (frame->layout / 2u + frame->layout % 2u) % 2;
+    size_t parity = (frame->layout / 2 + frame->layout % 2) % 2;
     for (size_t k = 0; k < n; k++) {
         size_t row = k / frame->width, column = k % frame->width;
         if ((row + column) % 2 == parity) {
@@ -148,8 +147,8 @@ static int finish(struct frame *frame)
     if (number != 0) {
         return refused("the frame is", number);
     }
-    if (printf("%zu by %zu pixels, rounds %u, threshold %u: finished in %.1f ms\n", frame->width, frame->height,
-               (unsigned)frame->rounds, (unsigned)frame->threshold, 1000 * seconds) < 0) {
+    if (printf("%zu by %zu pixels, rounds %" PRIu32 ", threshold %" PRIu32 ": finished in %.1f ms\n", frame->width,
+               frame->height, frame->rounds, frame->threshold, 1000 * seconds) < 0) {
         return failed("cannot write to standard output");
     }
     return 0;

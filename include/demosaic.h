@@ -15,6 +15,10 @@ extern "C" {
  * is answered no. A refused call leaves every buffer as it was, and every number behind a pointer too. What a call
  * hands back beside its number stands behind pointers, and is written only where the answer is 0.
  *
+ * Numbers. Turn, layout, rounds and threshold have 32 bits in every call, in and out, so that no conversion hides a
+ * value from its question: 320 rounds are refused, where a byte would have made them 64. A caller who holds one of
+ * them in 64 bits has to keep it below 2 to the power of 32.
+ *
  * Buffers. Each is a pointer and how many numbers it has (never how many bytes, but for bytes). Mosaics, planes and
  * bands are width * height numbers, row by row. The work buffer may hold anything before; after an accepted call its
  * first 8 * width * height numbers hold 0 and the rest is untouched.
@@ -123,7 +127,7 @@ uint32_t demosaic_packet_refusal(const uint8_t *store, size_t store_len);
 
 /* What a packet says of its frame. Asks 11, 1, 2, 3, 4, 5, 12, 13, 9. */
 uint32_t demosaic_packet_fields(const uint8_t *store, size_t store_len, size_t *width, size_t *height,
-                                uint8_t *layout, uint8_t *rounds, uint16_t *threshold);
+                                uint32_t *layout, uint32_t *rounds, uint32_t *threshold);
 
 /*
  * Fills `samples` with a packet's samples: as many as the packet's width * height. Asks 11, 1, 2, 3, 4, 5, 12, 13,
@@ -135,7 +139,7 @@ uint32_t demosaic_packet_samples(const uint8_t *store, size_t store_len, uint16_
  * Writes a packet into the first bytes of `out`, and how many they are into `written`; the bytes after them stay. Asks
  * 1, 2, 3, 4, 5, 6, 9, 14.
  */
-uint32_t demosaic_packet_write(size_t width, size_t height, uint8_t layout, uint8_t rounds, uint16_t threshold,
+uint32_t demosaic_packet_write(size_t width, size_t height, uint32_t layout, uint32_t rounds, uint32_t threshold,
                                const uint16_t *samples, size_t samples_len, uint8_t *out, size_t out_len,
                                size_t *written);
 
@@ -177,7 +181,7 @@ uint32_t demosaic_then_another(uint32_t turn, uint32_t next, uint32_t *single);
  * Finishes a frame into three planes, which may hold anything before. Asks 1, 2, 3, 4, 5, 6 (the mosaic), 7 (each
  * plane), 8, 9. A frame that was turned has the same answer, and each of its planes is the frame's plane turned alike.
  */
-uint32_t demosaic_finish(size_t width, size_t height, uint8_t layout, uint8_t rounds, uint16_t threshold,
+uint32_t demosaic_finish(size_t width, size_t height, uint32_t layout, uint32_t rounds, uint32_t threshold,
                          const uint16_t *mosaic, size_t mosaic_len, uint16_t *red, size_t red_len,
                          uint16_t *green, size_t green_len, uint16_t *blue, size_t blue_len,
                          int32_t *work, size_t work_len);
@@ -186,18 +190,19 @@ uint32_t demosaic_finish(size_t width, size_t height, uint8_t layout, uint8_t ro
  * The tally: frames finished, frames refused, rounds run. The caller holds the three counts, at first 0, and takes the
  * next of each after every finishing call: an accepted frame (number 0) adds 1 to the first and its rounds to the
  * third, a refused one adds 1 to the second only. Each count stops at 4,294,967,295. `number` is what demosaic_finish
- * answered, `rounds` what it was given. A frame that another call refused before is no part of the tally.
+ * answered, `rounds` what it was given; nothing is asked of them. A frame that another call refused before is no part
+ * of the tally.
  */
 uint32_t demosaic_tally_finished(uint32_t before, uint32_t number);
 uint32_t demosaic_tally_refused(uint32_t before, uint32_t number);
-uint32_t demosaic_tally_rounds(uint32_t before, uint32_t number, uint8_t rounds);
+uint32_t demosaic_tally_rounds(uint32_t before, uint32_t number, uint32_t rounds);
 
 /*
  * ---- The parts of finishing, one by one
  */
 
 /* Fills red, green and blue with the first estimates; observed samples are kept. Asks 1, 2, 3, 6 (the mosaic), 7, 9. */
-uint32_t demosaic_estimate(size_t width, size_t height, uint8_t layout, const uint16_t *mosaic, size_t mosaic_len,
+uint32_t demosaic_estimate(size_t width, size_t height, uint32_t layout, const uint16_t *mosaic, size_t mosaic_len,
                            uint16_t *red, size_t red_len, uint16_t *green, size_t green_len,
                            uint16_t *blue, size_t blue_len);
 
@@ -205,7 +210,7 @@ uint32_t demosaic_estimate(size_t width, size_t height, uint8_t layout, const ui
  * Updates green, as estimated, in place: at the places of red and of blue; the others stay. Asks 1, 2, 3, 6 (the
  * mosaic and green), 8, 9, 10 (green).
  */
-uint32_t demosaic_update(size_t width, size_t height, uint8_t layout, const uint16_t *mosaic, size_t mosaic_len,
+uint32_t demosaic_update(size_t width, size_t height, uint32_t layout, const uint16_t *mosaic, size_t mosaic_len,
                          uint16_t *green, size_t green_len, int32_t *work, size_t work_len);
 
 /*
@@ -213,7 +218,7 @@ uint32_t demosaic_update(size_t width, size_t height, uint8_t layout, const uint
  * its details within 16 * threshold of green's, joins and brings back, and then puts the observed samples in; with 0
  * rounds no plane changes. Asks 1, 2, 3, 4, 5, 6 (the mosaic), 7 (each plane), 8, 9, 10 (each plane).
  */
-uint32_t demosaic_rounds(size_t width, size_t height, uint8_t layout, uint8_t rounds, uint16_t threshold,
+uint32_t demosaic_rounds(size_t width, size_t height, uint32_t layout, uint32_t rounds, uint32_t threshold,
                          const uint16_t *mosaic, size_t mosaic_len, uint16_t *red, size_t red_len,
                          const uint16_t *green, size_t green_len, uint16_t *blue, size_t blue_len,
                          int32_t *work, size_t work_len);

@@ -26,9 +26,8 @@ struct buffer {
 static struct {
     int32_t buffers[MOST][NUMBERS];
     size_t width, height, written;
-    uint32_t turned_layout;
-    uint16_t threshold;
-    uint8_t layout, rounds, same;
+    uint32_t layout, rounds, threshold;
+    uint8_t same;
 } memory, before;
 
 struct call {
@@ -73,7 +72,7 @@ static uint32_t packet_repeats(size_t side, const struct buffer *b)
 static uint32_t turn(size_t side, const struct buffer *b)
 {
     return demosaic_turn(5, side, side, DEMOSAIC_GRBG, b[0].start, b[0].len, b[1].start, b[1].len, &memory.width,
-                         &memory.height, &memory.turned_layout);
+                         &memory.height, &memory.layout);
 }
 
 static uint32_t finish(size_t side, const struct buffer *b)

@@ -24,20 +24,20 @@ uint32_t PLAIN(join)(size_t width, size_t height, const int32_t *band1, size_t l
                      size_t length2, const int32_t *band3, size_t length3, const int32_t *band4,
                      size_t length4, int32_t *sums, size_t sums_length);
 
-uint32_t PLAIN(estimate)(size_t width, size_t height, uint8_t layout, const uint16_t *mosaic,
+uint32_t PLAIN(estimate)(size_t width, size_t height, uint32_t layout, const uint16_t *mosaic,
                          size_t mosaic_length, uint16_t *red, size_t red_length, uint16_t *green,
                          size_t green_length, uint16_t *blue, size_t blue_length);
 
-uint32_t PLAIN(update)(size_t width, size_t height, uint8_t layout, const uint16_t *mosaic,
+uint32_t PLAIN(update)(size_t width, size_t height, uint32_t layout, const uint16_t *mosaic,
                        size_t mosaic_length, uint16_t *green, size_t green_length, int32_t *work,
                        size_t work_length);
 
-uint32_t PLAIN(rounds)(size_t width, size_t height, uint8_t layout, uint8_t rounds, uint16_t threshold,
+uint32_t PLAIN(rounds)(size_t width, size_t height, uint32_t layout, uint32_t rounds, uint32_t threshold,
                        const uint16_t *mosaic, size_t mosaic_length, uint16_t *red, size_t red_length,
                        const uint16_t *green, size_t green_length, uint16_t *blue, size_t blue_length,
                        int32_t *work, size_t work_length);
 
-uint32_t PLAIN(finish)(size_t width, size_t height, uint8_t layout, uint8_t rounds, uint16_t threshold,
+uint32_t PLAIN(finish)(size_t width, size_t height, uint32_t layout, uint32_t rounds, uint32_t threshold,
                        const uint16_t *mosaic, size_t mosaic_length, uint16_t *red, size_t red_length,
                        uint16_t *green, size_t green_length, uint16_t *blue, size_t blue_length,
                        int32_t *work, size_t work_length);
@@ -77,7 +77,7 @@ static inline uint32_t sizes_refusal(size_t least, size_t width, size_t height)
 }
 
 /* Questions 1, 2 and 3 of a frame. */
-static inline uint32_t shape_refusal(size_t width, size_t height, uint8_t layout)
+static inline uint32_t shape_refusal(size_t width, size_t height, uint32_t layout)
 {
     uint32_t refusal = sizes_refusal(2, width, height);
     if (refusal != 0) {
@@ -97,8 +97,8 @@ static inline int in_range(size_t n, const uint16_t *samples)
 }
 
 /* Questions 1 to 9 of the rounds and of finishing. */
-static inline uint32_t lent_refusal(size_t width, size_t height, uint8_t layout, uint8_t rounds,
-                                    uint16_t threshold, const uint16_t *mosaic, size_t mosaic_length,
+static inline uint32_t lent_refusal(size_t width, size_t height, uint32_t layout, uint32_t rounds,
+                                    uint32_t threshold, const uint16_t *mosaic, size_t mosaic_length,
                                     size_t red_length, size_t green_length, size_t blue_length,
                                     size_t work_length)
 {

@@ -152,7 +152,7 @@ static void estimate_row(const struct frame *f, size_t r)
     estimate_part(f, r, width - 2, width);
 }
 
-uint32_t PLAIN(estimate)(size_t width, size_t height, uint8_t layout, const uint16_t *mosaic,
+uint32_t PLAIN(estimate)(size_t width, size_t height, uint32_t layout, const uint16_t *mosaic,
                          size_t mosaic_length, uint16_t *red, size_t red_length, uint16_t *green,
                          size_t green_length, uint16_t *blue, size_t blue_length)
 {

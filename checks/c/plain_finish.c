@@ -2,7 +2,7 @@
 
 #include "plain.h"
 
-uint32_t PLAIN(finish)(size_t width, size_t height, uint8_t layout, uint8_t rounds, uint16_t threshold,
+uint32_t PLAIN(finish)(size_t width, size_t height, uint32_t layout, uint32_t rounds, uint32_t threshold,
                        const uint16_t *mosaic, size_t mosaic_length, uint16_t *red, size_t red_length,
                        uint16_t *green, size_t green_length, uint16_t *blue, size_t blue_length,
                        int32_t *work, size_t work_length)

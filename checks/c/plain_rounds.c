@@ -44,19 +44,19 @@ static void narrow(size_t n, const int32_t *restrict plane, uint16_t *restrict s
 }
 
 /* All rounds of a colour. */
-static void run(const struct colour *c, uint8_t rounds, uint16_t *samples)
+static void run(const struct colour *c, uint32_t rounds, uint16_t *samples)
 {
     size_t n = c->width * c->height;
     struct guide green = {c->green, c->width, 1};
     widen(n, samples, c->plane);
-    for (unsigned t = 0; t < rounds; t++) {
+    for (uint32_t t = 0; t < rounds; t++) {
         PLAIN(project)(c->width, c->height, c->plane, green, c->limit);
         put_observed(c);
     }
     narrow(n, c->plane, samples);
 }
 
-uint32_t PLAIN(rounds)(size_t width, size_t height, uint8_t layout, uint8_t rounds, uint16_t threshold,
+uint32_t PLAIN(rounds)(size_t width, size_t height, uint32_t layout, uint32_t rounds, uint32_t threshold,
                        const uint16_t *mosaic, size_t mosaic_length, uint16_t *red, size_t red_length,
                        const uint16_t *green, size_t green_length, uint16_t *blue, size_t blue_length,
                        int32_t *work, size_t work_length)
@@ -71,7 +71,7 @@ uint32_t PLAIN(rounds)(size_t width, size_t height, uint8_t layout, uint8_t roun
         return 10;
     }
     struct colour c = {.width = width, .height = height, .row = layout / 2, .column = layout % 2,
-                       .limit = 16 * threshold, .mosaic = mosaic, .green = green, .plane = work};
+                       .limit = 16 * (int32_t)threshold, .mosaic = mosaic, .green = green, .plane = work};
     run(&c, rounds, red);
     c.row = 1 - c.row;
     c.column = 1 - c.column;

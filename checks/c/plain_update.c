@@ -46,7 +46,7 @@ static void update_places(size_t width, struct places at, const uint16_t *mosaic
     }
 }
 
-uint32_t PLAIN(update)(size_t width, size_t height, uint8_t layout, const uint16_t *mosaic,
+uint32_t PLAIN(update)(size_t width, size_t height, uint32_t layout, const uint16_t *mosaic,
                        size_t mosaic_length, uint16_t *green, size_t green_length, int32_t *work,
                        size_t work_length)
 {

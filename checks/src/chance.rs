@@ -73,20 +73,20 @@ impl Chance {
 
     /// Fields of a frame of this size, with one round to three; the rest by chance.
     pub fn few_rounds(&mut self, width: usize, height: usize) -> Fields {
-        let any = self.between(0, 4095) as u16;
+        let any = self.between(0, 4095) as u32;
         let threshold = self.one_of(&[0, 1, 20, 20, 300, any, 4094, 4095]);
-        let (layout, rounds) = (self.between(0, 3) as u8, self.one_of(&[1, 1, 2, 3]));
+        let (layout, rounds) = (self.between(0, 3) as u32, self.one_of(&[1, 1, 2, 3]));
         Fields { width, height, layout, rounds, threshold }
     }
 
     /// Fields in range; width and height are 2 to 9.
     pub fn small_fields(&mut self) -> Fields {
-        let within = self.between(0, 4095) as u16;
+        let within = self.between(0, 4095) as u32;
         Fields {
             width: self.between(2, 9) as usize,
             height: self.between(2, 9) as usize,
-            layout: self.between(0, 3) as u8,
-            rounds: self.between(0, 64) as u8,
+            layout: self.between(0, 3) as u32,
+            rounds: self.between(0, 64) as u32,
             threshold: self.one_of(&[0, 4095, within, within]),
         }
     }

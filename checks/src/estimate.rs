@@ -48,11 +48,11 @@ fn bilinear(mosaic: &Mosaic, colour: Colour, i: i64, j: i64) -> u16 {
 pub fn estimate(
     width: usize,
     height: usize,
-    layout: u8,
+    layout: u32,
     mosaic: &[u16],
     planes: [&mut [u16]; 3],
 ) -> Result<(), u32> {
-    if let Some(number) = shape_refusal(width, height, layout.into()) {
+    if let Some(number) = shape_refusal(width, height, layout) {
         return Err(number);
     }
     if mosaic.len() != width * height {
@@ -75,7 +75,7 @@ pub fn estimate(
 }
 
 /// Red, green and blue of a mosaic that the call accepts.
-pub fn estimates_of(width: usize, height: usize, layout: u8, mosaic: &[u16]) -> [Vec<u16>; 3] {
+pub fn estimates_of(width: usize, height: usize, layout: u32, mosaic: &[u16]) -> [Vec<u16>; 3] {
     let mut planes = [(); 3].map(|_| vec![7; width * height]);
     estimate(width, height, layout, mosaic, planes.each_mut().map(|plane| &mut plane[..])).unwrap();
     planes

@@ -57,13 +57,13 @@ pub struct Tally {
 }
 
 /// More, as far as 32 bits go.
-fn stopping(count: u32, more: u8) -> u32 {
+fn stopping(count: u32, more: u32) -> u32 {
     (u64::from(count) + u64::from(more)).min(4_294_967_295) as u32
 }
 
 impl Tally {
     /// The next tally, after a finishing call with so many rounds that answered this number, 0 if it was accepted.
-    pub fn next(self, number: u32, rounds: u8) -> Tally {
+    pub fn next(self, number: u32, rounds: u32) -> Tally {
         if number == 0 {
             Tally { finished: stopping(self.finished, 1), rounds: stopping(self.rounds, rounds), ..self }
         } else {
@@ -72,11 +72,11 @@ impl Tally {
     }
 
     /// The tally from zero after a whole list of finishing calls, each its number and its rounds: the list's own count.
-    pub fn of(history: &[(u32, u8)]) -> Tally {
+    pub fn of(history: &[(u32, u32)]) -> Tally {
         let accepted = || history.iter().filter(|(number, _)| *number == 0);
-        let finished = accepted().count();
-        let rounds: usize = accepted().map(|&(_, rounds)| usize::from(rounds)).sum();
-        let counts = [finished, history.len() - finished, rounds];
+        let finished = accepted().count() as u64;
+        let rounds: u64 = accepted().map(|&(_, rounds)| u64::from(rounds)).sum();
+        let counts = [finished, history.len() as u64 - finished, rounds];
         let [finished, refused, rounds] = counts.map(|count| count.min(4_294_967_295) as u32);
         Tally { finished, refused, rounds }
     }
@@ -107,9 +107,9 @@ mod tests {
     /// 2 by 2 with T = 0 by hand. Red and blue are first the one sample everywhere. Green is the rounded mean at their
     /// places, and the update leaves it, since a small plane of one value has no detail. Band 1 joins to 256 times the
     /// four values together; so a round moves a colour's mean to green's details.
-    fn two_by_two(layout: u8, rounds: u8, mosaic: [u16; 4]) -> [Vec<u16>; 3] {
+    fn two_by_two(layout: u32, rounds: u32, mosaic: [u16; 4]) -> [Vec<u16>; 3] {
         // red sits at the place of the layout's number, blue at the opposite one
-        let at = [usize::from(layout), usize::from(3 - layout)];
+        let at = [layout as usize, 3 - layout as usize];
         let of_green = |k: &usize| !at.contains(k);
         let greens: u16 = (0..4).filter(of_green).map(|k| mosaic[k]).sum();
         let green = [0, 1, 2, 3].map(|k| if of_green(&k) { mosaic[k] } else { (greens + 1) / 2 });
@@ -202,5 +202,11 @@ mod tests {
         assert_eq!(near.next(0, 63).next(5, 1), ends);
         assert_eq!(near.next(0, 64).next(5, 1), ends);
         assert_eq!(ends.next(0, 1).next(3, 1), ends);
+        // rounds that no frame has are counted as they are
+        let wide = Tally { rounds: 3, ..Tally::default() }.next(0, 320).next(7, 9).next(0, 65_536);
+        assert_eq!(wide, Tally { finished: 2, refused: 1, rounds: 65_859 });
+        assert_eq!(wide.next(0, u32::MAX - 65_859).rounds, u32::MAX);
+        assert_eq!(wide.next(0, u32::MAX).rounds, u32::MAX);
+        assert_eq!(Tally::of(&[(0, u32::MAX), (0, u32::MAX)]).rounds, u32::MAX);
     }
 }

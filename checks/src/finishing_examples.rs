@@ -13,7 +13,7 @@ const SAMPLES: [u16; 12] = [100, 4095, 0, 20, 3000, 7, 700, 1200, 64, 2500, 2048
 type Size = [usize; 2];
 
 /// Layout, rounds and threshold.
-type Settings = (u8, u8, u16);
+type Settings = (u32, u32, u32);
 
 /// A frame's fields, its sample at place 1, and how long the buffers are: both mosaics, and red, green, blue and the work
 /// buffer of each finishing.
@@ -48,13 +48,13 @@ fn finished(fields: &Fields, mosaic: &[u16], e: &Example, before: u16) -> (u32, 
 
 /// Demand 3's list of turning calls, from the one mosaic into the other and back. Hands back the fields of what stands after
 /// it, and which mosaic has its samples.
-fn turn_all(turns: &[u8], mut fields: Fields, mosaics: &mut [Vec<u16>; 2]) -> (Fields, usize) {
+fn turn_all(turns: &[u32], mut fields: Fields, mosaics: &mut [Vec<u16>; 2]) -> (Fields, usize) {
     let mut place = 0;
     for &turn in turns {
         let Fields { width, height, layout, .. } = fields;
         let given = mosaics[place].clone();
         let second = &mut mosaics[1 - place];
-        if let Ok(shape) = turn_samples(turn.into(), width, height, layout.into(), &given, second) {
+        if let Ok(shape) = turn_samples(turn, width, height, layout, &given, second) {
             (fields.width, fields.height, fields.layout) = shape;
             place = 1 - place;
         }
@@ -64,7 +64,7 @@ fn turn_all(turns: &[u8], mut fields: Fields, mosaics: &mut [Vec<u16>; 2]) -> (F
 
 /// The turns; both numbers; both mosaics; then of each finishing red, green, blue, and how many zeros and how many fives its
 /// work buffer holds.
-fn show(out: &mut String, turns: &[u8], e: &Example) {
+fn show(out: &mut String, turns: &[u32], e: &Example) {
     let mut samples = SAMPLES;
     samples[1] = e.sample;
     let mut mosaics = [samples[..e.mosaics[0]].to_vec(), vec![3; e.mosaics[1]]];
@@ -99,7 +99,7 @@ const BY_LISTS: [(Size, Settings); 12] = [
     ([4, 3], (1, 2, 0)),
     ([4, 3], (3, 1, 20)),
 ];
-const LISTS: [&[u8]; 5] = [&[], &[8, 255], &[255, 2, 8, 7], &[6, 8, 3, 255, 5], &[1, 4, 1, 4, 6, 3, 5]];
+const LISTS: [&[u32]; 5] = [&[], &[8, 255], &[255, 2, 8, 7], &[6, 8, 3, 255, 5], &[1, 4, 1, 4, 6, 3, 5]];
 
 /// Frames with a second mosaic and work buffers of these lengths.
 const OTHER_LENGTHS: [(usize, usize, Size, Settings); 8] = [

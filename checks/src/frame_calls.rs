@@ -54,7 +54,7 @@ macro_rules! frame_calls {
             fn $demosaic_estimate(
                 width: usize,
                 height: usize,
-                layout: u8,
+                layout: u32,
                 mosaic: *const u16,
                 mosaic_len: usize,
                 red: *mut u16,
@@ -68,7 +68,7 @@ macro_rules! frame_calls {
             fn $demosaic_update(
                 width: usize,
                 height: usize,
-                layout: u8,
+                layout: u32,
                 mosaic: *const u16,
                 mosaic_len: usize,
                 green: *mut u16,
@@ -80,9 +80,9 @@ macro_rules! frame_calls {
             fn $demosaic_rounds(
                 width: usize,
                 height: usize,
-                layout: u8,
-                rounds: u8,
-                threshold: u16,
+                layout: u32,
+                rounds: u32,
+                threshold: u32,
                 mosaic: *const u16,
                 mosaic_len: usize,
                 red: *mut u16,
@@ -98,9 +98,9 @@ macro_rules! frame_calls {
             fn $demosaic_finish(
                 width: usize,
                 height: usize,
-                layout: u8,
-                rounds: u8,
-                threshold: u16,
+                layout: u32,
+                rounds: u32,
+                threshold: u32,
                 mosaic: *const u16,
                 mosaic_len: usize,
                 red: *mut u16,
@@ -159,7 +159,7 @@ macro_rules! frame_calls {
         pub fn estimate(
             width: usize,
             height: usize,
-            layout: u8,
+            layout: u32,
             mosaic: &[u16],
             planes: [&mut [u16]; 3],
         ) -> Result<(), u32> {
@@ -185,7 +185,7 @@ macro_rules! frame_calls {
         pub fn update(
             width: usize,
             height: usize,
-            layout: u8,
+            layout: u32,
             mosaic: &[u16],
             green: &mut [u16],
             work: &mut [i32],

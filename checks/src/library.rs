@@ -18,9 +18,9 @@ unsafe extern "C" {
         store_len: usize,
         width: *mut usize,
         height: *mut usize,
-        layout: *mut u8,
-        rounds: *mut u8,
-        threshold: *mut u16,
+        layout: *mut u32,
+        rounds: *mut u32,
+        threshold: *mut u32,
     ) -> u32;
 
     fn demosaic_packet_samples(
@@ -33,9 +33,9 @@ unsafe extern "C" {
     fn demosaic_packet_write(
         width: usize,
         height: usize,
-        layout: u8,
-        rounds: u8,
-        threshold: u16,
+        layout: u32,
+        rounds: u32,
+        threshold: u32,
         samples: *const u16,
         samples_len: usize,
         out: *mut u8,
@@ -77,7 +77,7 @@ unsafe extern "C" {
 
     safe fn demosaic_tally_refused(before: u32, number: u32) -> u32;
 
-    safe fn demosaic_tally_rounds(before: u32, number: u32, rounds: u8) -> u32;
+    safe fn demosaic_tally_rounds(before: u32, number: u32, rounds: u32) -> u32;
 }
 
 checks::frame_calls!(
@@ -93,9 +93,9 @@ pub fn packet_fields(
     store: &[u8],
     width: &mut usize,
     height: &mut usize,
-    layout: &mut u8,
-    rounds: &mut u8,
-    threshold: &mut u16,
+    layout: &mut u32,
+    rounds: &mut u32,
+    threshold: &mut u32,
 ) -> Result<(), u32> {
     // each pointer and length are those of one slice or number, and none that is written overlaps another
     answer(unsafe {
@@ -191,7 +191,7 @@ pub fn bring_back(sum: i32) -> u16 {
 }
 
 /// The next tally, after a finishing call with so many rounds that answered this number.
-pub fn next_tally(before: Tally, number: u32, rounds: u8) -> Tally {
+pub fn next_tally(before: Tally, number: u32, rounds: u32) -> Tally {
     Tally {
         finished: demosaic_tally_finished(before.finished, number),
         refused: demosaic_tally_refused(before.refused, number),

@@ -3,7 +3,7 @@
 use crate::border::reflect;
 
 /// Red's parities in a layout: of its rows, and of its columns.
-pub fn red_parities(layout: u8) -> (usize, usize) {
+pub fn red_parities(layout: u32) -> (usize, usize) {
     match layout {
         0 => (0, 0),
         1 => (0, 1),
@@ -13,7 +13,7 @@ pub fn red_parities(layout: u8) -> (usize, usize) {
     }
 }
 
-pub fn layout_of(red: (usize, usize)) -> u8 {
+pub fn layout_of(red: (usize, usize)) -> u32 {
     (0..4).find(|&l| red_parities(l) == red).unwrap()
 }
 
@@ -28,7 +28,7 @@ pub enum Colour {
 pub struct Mosaic<'a> {
     pub width: usize,
     pub height: usize,
-    pub layout: u8,
+    pub layout: u32,
     pub samples: &'a [u16],
 }
 

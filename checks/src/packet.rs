@@ -5,9 +5,9 @@
 pub struct Fields {
     pub width: usize,
     pub height: usize,
-    pub layout: u8,
-    pub rounds: u8,
-    pub threshold: u16,
+    pub layout: u32,
+    pub rounds: u32,
+    pub threshold: u32,
 }
 
 /// How many bytes the trailer has.
@@ -58,9 +58,9 @@ pub fn bytes(fields: &Fields, samples: &[u16]) -> Vec<u8> {
     }
     packet.extend(width);
     packet.extend(height);
-    packet.push(fields.layout);
-    packet.push(fields.rounds);
-    packet.extend(low_byte_first(u64::from(fields.threshold), 2));
+    packet.extend(low_byte_first(fields.layout.into(), 1));
+    packet.extend(low_byte_first(fields.rounds.into(), 1));
+    packet.extend(low_byte_first(fields.threshold.into(), 2));
     packet.extend(low_byte_first(distance, 4));
     packet
 }
@@ -101,9 +101,9 @@ fn trailer(store: &[u8]) -> Result<(Fields, &[u8]), u32> {
     let fields = Fields {
         width: number(&trailer[0..2]) as usize,
         height: number(&trailer[2..4]) as usize,
-        layout: trailer[4],
-        rounds: trailer[5],
-        threshold: number(&trailer[6..8]) as u16,
+        layout: trailer[4].into(),
+        rounds: trailer[5].into(),
+        threshold: number(&trailer[6..8]) as u32,
     };
     let distance = number(&trailer[8..12]);
     if let Some(number) = fields_refusal(&fields) {

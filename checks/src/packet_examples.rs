@@ -24,7 +24,7 @@ fn after_older_bytes() -> Vec<u8> {
 /// Width, height, layout, rounds and threshold.
 fn fields_line(out: &mut String, fields: &Fields) {
     let Fields { width, height, layout, rounds, threshold } = *fields;
-    line(out, &[width, height, layout.into(), rounds.into(), threshold.into()]);
+    line(out, &[width as u64, height as u64, layout.into(), rounds.into(), threshold.into()]);
 }
 
 /// What the reader answers: the fields, and the bytes of the part that holds the samples; or the refusal.

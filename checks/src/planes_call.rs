@@ -5,8 +5,8 @@ use crate::buffers::Buffer;
 use crate::chance::Chance;
 use crate::packet::Fields;
 use crate::refusals::{
-    answered, short_work, sufficient_work, wrong_field, wrong_lengths, Counts, FrameCall, LARGEST, NO_SAMPLE,
-    SHAPES, TRIES, TRIES_IN_THE_LARGEST,
+    answer_no, answered, field_mut, short_work, sufficient_work, wrong_lengths, Counts, FrameCall, LARGEST,
+    NO_SAMPLE, SHAPES, TRIES, TRIES_IN_THE_LARGEST,
 };
 use std::marker::PhantomData;
 
@@ -94,27 +94,10 @@ impl<C: PlanesCall> Ask<C> {
 }
 
 /// Rounds and thresholds: few rounds with every threshold, and the most rounds with a threshold by chance.
-pub fn settings(chance: &mut Chance) -> Vec<(u8, u16)> {
+pub fn settings(chance: &mut Chance) -> Vec<(u32, u32)> {
     let thresholds = [0, 1, 20, 300, 4095];
     let few = [0, 1, 2, 3, 8].into_iter().flat_map(|rounds| thresholds.map(|threshold| (rounds, threshold)));
     few.chain([(64, chance.one_of(&thresholds))]).collect()
-}
-
-/// Questions 4 and 5, each answered no alone; and the ends of their ranges.
-pub fn settings_refused<C: PlanesCall>(chance: &mut Chance, counts: &mut Counts) {
-    for rounds in 0..=255 {
-        let mut ask = Ask::<C>::sound(chance, 5, 4);
-        ask.fields.rounds = rounds;
-        answered(&ask, if rounds <= 64 { 0 } else { 4 }, "every number of rounds", counts);
-    }
-    let out_of_range = [4096, 4097, 4100, 8191, 8192, 32_767, 32_768, 36_863, 61_440, 65_535];
-    for (width, height) in SHAPES {
-        for threshold in [0, 1, 2, 20, 255, 256, 2047, 2048, 4094, 4095].into_iter().chain(out_of_range) {
-            let mut ask = Ask::<C>::sound(chance, width, height);
-            ask.fields.threshold = threshold;
-            answered(&ask, if threshold <= 4095 { 0 } else { 5 }, "a threshold", counts);
-        }
-    }
 }
 
 /// Questions 6, 7 and 8, each answered no alone: of each buffer, and of two planes whose lengths together would be right.
@@ -188,7 +171,7 @@ impl<C: PlanesCall> FrameCall for Ask<C> {
     const QUESTIONS: &'static [u32] = C::QUESTIONS;
 
     fn sound(chance: &mut Chance, width: usize, height: usize) -> Self {
-        let rounds = chance.between(0, 3) as u8;
+        let rounds = chance.between(0, 3) as u32;
         let fields = Fields { rounds, ..chance.few_rounds(width, height) };
         let mosaic = chance.samples(width * height);
         Ask::of(fields, &mosaic, [(); 3].map(|_| C::plane(chance, width * height)))
@@ -203,7 +186,7 @@ impl<C: PlanesCall> FrameCall for Ask<C> {
             let no_sample = chance.one_of(&NO_SAMPLE);
             let plane = chance.place(3);
             match question {
-                1..=5 => wrong_field(chance, &mut ask.fields, *question),
+                1..=5 => answer_no(chance, &mut ask, *question),
                 6 => ask.mosaic = chance.samples(length),
                 7 => ask.planes[plane] = C::plane(chance, length),
                 8 => ask.work = chance.one_of(&[0, count, 8 * count - 1]),
@@ -214,12 +197,12 @@ impl<C: PlanesCall> FrameCall for Ask<C> {
         ask
     }
 
-    fn told(self, width: usize, height: usize, layout: u8) -> Self {
-        Ask { fields: Fields { width, height, layout, ..self.fields }, ..self }
+    fn size_mut(&mut self) -> [&mut usize; 2] {
+        [&mut self.fields.width, &mut self.fields.height]
     }
 
-    fn layout(&self) -> u8 {
-        self.fields.layout
+    fn asked_mut(&mut self, question: u32) -> &mut u32 {
+        field_mut(&mut self.fields, question)
     }
 
     fn number(&self, kind: &str) -> u32 {

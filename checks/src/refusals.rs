@@ -27,6 +27,27 @@ pub const NO_TURN_OR_LAYOUT: [u32; 14] = [
     u32::MAX,
 ];
 
+/// The questions about numbers that have 32 bits in C, and the largest number that each allows.
+const LARGEST_ALLOWED: [(u32, u32); 4] = [(16, 7), (3, 3), (4, 64), (5, 4095)];
+
+/// Numbers above `most`. Nearly all of them would be in range in fewer bits or with a sign: a bit or several above those of
+/// `most`, and below them a number in range.
+fn above(most: u32) -> Vec<u32> {
+    let one_bit = (0..32).map(|bit| 1 << bit);
+    let several = [768, 0xff00, 0x3_0000, 0xff_0000, 0xffff_0000, 0xffff_ff00];
+    let upper = one_bit.chain(several).filter(|&upper| upper > most);
+    upper.flat_map(|upper| [0, 1, most / 2, most].map(|lower| upper | lower)).chain([u32::MAX]).collect()
+}
+
+/// A number that this question refuses: one that a packet could hold, any of 32 bits, or one that fewer would hide.
+fn wrong_number(chance: &mut Chance, question: u32) -> u32 {
+    let (_, most) = LARGEST_ALLOWED.into_iter().find(|(other, _)| *other == question).expect("a number");
+    let narrow = if most < 256 { 255 } else { 65_535 };
+    let [held, any] = [narrow, u32::MAX].map(|end| chance.between(u64::from(most) + 1, end.into()) as u32);
+    let hidden = chance.one_of(&above(most));
+    chance.one_of(&[held, any, hidden])
+}
+
 /// Lengths that are not w·h.
 pub fn wrong_lengths(width: usize, height: usize) -> Vec<usize> {
     let count = width * height;
@@ -63,15 +84,13 @@ pub const LARGEST: usize = 2048 * 2048;
 pub const TRIES_IN_THE_LARGEST: [(usize, u16); 3] =
     [(0, 65_535), (LARGEST / 2 + 77, 4096), (LARGEST - 1, 4096)];
 
-/// Answers one of questions 1 to 5 no.
-pub fn wrong_field(chance: &mut Chance, fields: &mut Fields, question: u32) {
+/// The field that question 3, 4 or 5 asks about.
+pub fn field_mut(fields: &mut Fields, question: u32) -> &mut u32 {
     match question {
-        1 => fields.width = chance.one_of(&NO_LENGTH),
-        2 => fields.height = chance.one_of(&NO_LENGTH),
-        3 => fields.layout = chance.between(4, 255) as u8,
-        4 => fields.rounds = chance.between(65, 255) as u8,
-        5 => fields.threshold = chance.between(4096, 65_535) as u16,
-        _ => panic!("no field has question {question}"),
+        3 => &mut fields.layout,
+        4 => &mut fields.rounds,
+        5 => &mut fields.threshold,
+        _ => panic!("no field of 32 bits has question {question}"),
     }
 }
 
@@ -112,13 +131,24 @@ pub trait FrameCall: Clone {
     /// A call of which these questions are answered no.
     fn wrong(chance: &mut Chance, questions: &[u32]) -> Self;
 
-    /// The same buffers with another width, height and layout.
-    fn told(self, width: usize, height: usize, layout: u8) -> Self;
+    /// Width and height.
+    fn size_mut(&mut self) -> [&mut usize; 2];
 
-    fn layout(&self) -> u8;
+    /// The number of 32 bits that this question asks about.
+    fn asked_mut(&mut self, question: u32) -> &mut u32;
 
     /// Its number, where the library and the reference agree on all that it leaves.
     fn number(&self, kind: &str) -> u32;
+}
+
+/// Answers one of questions 16 and 1 to 5 no.
+pub fn answer_no<C: FrameCall>(chance: &mut Chance, call: &mut C, question: u32) {
+    let [width, height] = call.size_mut();
+    match question {
+        1 => *width = chance.one_of(&NO_LENGTH),
+        2 => *height = chance.one_of(&NO_LENGTH),
+        of_a_number => *call.asked_mut(of_a_number) = wrong_number(chance, of_a_number),
+    }
 }
 
 /// Asks, expects this number and counts it.
@@ -134,10 +164,11 @@ fn sizes<C: FrameCall>(chance: &mut Chance, counts: &mut Counts) {
             // as long as they would have to be, where that is not too long, and as far as the product fits
             let product = length.wrapping_mul(other);
             let count = if product <= 3 * 4096 { product } else { 6 };
-            let call = C::sound(chance, count, 1);
-            let layout = call.layout();
-            answered(&call.clone().told(length, other, layout), 1, "a width", counts);
-            answered(&call.told(other, length, layout), 2, "a height", counts);
+            let call = &mut C::sound(chance, count, 1);
+            for (size, number) in [([length, other], 1), ([other, length], 2)] {
+                call.size_mut().into_iter().zip(size).for_each(|(side, length)| *side = length);
+                answered(call, number, &format!("{size:?}"), counts);
+            }
         }
     }
     for (width, height) in [(2, 2), (2, 3), (3, 2), (2048, 2), (2, 2048), (2047, 2), (2, 2047)] {
@@ -145,11 +176,35 @@ fn sizes<C: FrameCall>(chance: &mut Chance, counts: &mut Counts) {
     }
 }
 
-/// Question 3 alone, of every layout.
-fn layouts<C: FrameCall>(chance: &mut Chance, counts: &mut Counts) {
-    for layout in 0..=255 {
-        let call = C::sound(chance, 5, 4).told(5, 4, layout);
-        answered(&call, if layout < 4 { 0 } else { 3 }, "every layout", counts);
+/// The call's questions about numbers of 32 bits, and the largest number that each allows.
+fn of_numbers<C: FrameCall>() -> impl Iterator<Item = (u32, u32)> {
+    LARGEST_ALLOWED.into_iter().filter(|(question, _)| C::QUESTIONS.contains(question))
+}
+
+/// Each question about a number, alone: of every number that it allows, of every byte, and of wider ones.
+fn numbers<C: FrameCall>(chance: &mut Chance, counts: &mut Counts) {
+    for (question, most) in of_numbers::<C>() {
+        for number in (0..=most.max(255)).chain(above(most)) {
+            let mut call = C::sound(chance, 5, 4);
+            *call.asked_mut(question) = number;
+            let due = if number <= most { 0 } else { question };
+            answered(&call, due, &format!("{number} for question {question}"), counts);
+        }
+    }
+}
+
+/// Each number out of range with other questions answered no, before its own and after it: it is asked neither too early nor
+/// too late, however wide it is.
+fn numbers_in_their_place<C: FrameCall>(chance: &mut Chance, counts: &mut Counts) {
+    for questions in sets(C::QUESTIONS).iter().filter(|set| set.len() <= 3) {
+        for (question, most) in of_numbers::<C>().filter(|(question, _)| questions.contains(question)) {
+            for number in above(most) {
+                let mut call = C::wrong(chance, questions);
+                *call.asked_mut(question) = number;
+                let kind = format!("{questions:?} answered no, {question} of {number}");
+                answered(&call, questions[0], &kind, counts);
+            }
+        }
     }
 }
 
@@ -169,7 +224,8 @@ pub fn refusals<C: FrameCall>(own: impl FnOnce(&mut Chance, &mut Counts)) {
     let chance = &mut Chance(0xda94_2042_e4dd_58b5);
     let mut counts = Counts::default();
     sizes::<C>(chance, &mut counts);
-    layouts::<C>(chance, &mut counts);
+    numbers::<C>(chance, &mut counts);
+    numbers_in_their_place::<C>(chance, &mut counts);
     own(chance, &mut counts);
     several_wrongs::<C>(chance, &mut counts);
     counts.assert_complete(C::NAME, C::QUESTIONS);

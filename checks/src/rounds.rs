@@ -15,8 +15,8 @@ fn bands_of(mosaic: &Mosaic, plane: &[u16]) -> [Vec<i32>; 4] {
 }
 
 /// A value of band 2, 3 or 4, held within green's value ± 16·T.
-fn held(value: i32, green: i32, threshold: u16) -> i32 {
-    let limit = 16 * i32::from(threshold);
+fn held(value: i32, green: i32, threshold: u32) -> i32 {
+    let limit = 16 * threshold as i32;
     value.clamp(green - limit, green + limit)
 }
 
@@ -30,7 +30,7 @@ fn put_observed(mosaic: &Mosaic, colour: Colour, plane: &mut [u16]) {
 }
 
 /// One round for red or for blue, given the bands of green.
-fn round(mosaic: &Mosaic, colour: Colour, green: &[Vec<i32>; 4], threshold: u16, plane: &mut [u16]) {
+fn round(mosaic: &Mosaic, colour: Colour, green: &[Vec<i32>; 4], threshold: u32, plane: &mut [u16]) {
     let mut bands = bands_of(mosaic, plane);
     for (band, green) in bands.iter_mut().zip(green).skip(1) {
         for (value, &green) in band.iter_mut().zip(green) {
@@ -153,8 +153,8 @@ mod tests {
                 let planes = [of_two(a, b).to_vec(), vec![50; 4], of_two(b, a).to_vec()];
                 let mut due = [of_two(held_a, held_b), of_two(held_b, held_a)];
                 // red sits at the place of the layout's number, blue at the opposite one
-                due[0][usize::from(layout)] = 7;
-                due[1][usize::from(3 - layout)] = 7;
+                due[0][layout as usize] = 7;
+                due[1][3 - layout as usize] = 7;
                 assert_eq!(rounds_of(&fields, &[7; 4], &planes), due, "{a} and {b}, {fields:?}");
             }
         }
@@ -193,7 +193,7 @@ mod tests {
     fn by_the_low_band(
         mosaic: &Mosaic,
         colour: Colour,
-        rounds: u8,
+        rounds: u32,
         first: &[u16],
         green: &[u16],
     ) -> Vec<u16> {

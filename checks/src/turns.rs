@@ -6,7 +6,7 @@ use crate::mosaic::{self, layout_of, red_parities};
 pub struct Frame {
     pub width: usize,
     pub height: usize,
-    pub layout: u8,
+    pub layout: u32,
     pub samples: Vec<u16>,
 }
 
@@ -16,7 +16,7 @@ impl Frame {
     }
 
     /// A frame whose row i, column j holds `held(i, j)`.
-    fn filled(width: usize, height: usize, layout: u8, held: impl Fn(usize, usize) -> u16) -> Frame {
+    fn filled(width: usize, height: usize, layout: u32, held: impl Fn(usize, usize) -> u16) -> Frame {
         let mut samples = Vec::new();
         for i in 0..height {
             for j in 0..width {
@@ -51,7 +51,7 @@ impl Frame {
         })
     }
 
-    pub fn turned(&self, turn: u8) -> Frame {
+    pub fn turned(&self, turn: u32) -> Frame {
         let first = if turn >= 4 { self.exchanged() } else { self.clone() };
         match turn % 4 {
             0 => first,
@@ -62,36 +62,34 @@ impl Frame {
     }
 }
 
-/// Question 16; a turn that passes fits a byte.
-fn turn_of(number: u32) -> Result<u8, u32> {
-    if number > 7 {
+/// Question 16.
+fn ask_turn(turn: u32) -> Result<(), u32> {
+    if turn > 7 {
         Err(16)
     } else {
-        Ok(number as u8)
+        Ok(())
     }
 }
 
 /// Question 16 of both turns; then the one turn that does what the two do, found by trying each on a frame that no turn
 /// leaves as it is.
-pub fn then_another(first: u32, second: u32) -> Result<u8, u32> {
-    let (first, second) = (turn_of(first)?, turn_of(second)?);
+pub fn then_another(first: u32, second: u32) -> Result<u32, u32> {
+    ask_turn(first)?;
+    ask_turn(second)?;
     let frame = Frame { width: 3, height: 2, layout: 0, samples: (0..6).collect() };
     let both = frame.turned(first).turned(second);
     Ok((0..8).find(|&t| frame.turned(t) == both).unwrap())
 }
 
-/// Questions 16, 1, 2 and 3; then the turn and the layout, which fits a byte.
-fn asked(turn: u32, width: usize, height: usize, layout: u32) -> Result<(u8, u8), u32> {
-    let turn = turn_of(turn)?;
-    match mosaic::shape_refusal(width, height, layout) {
-        Some(number) => Err(number),
-        None => Ok((turn, layout as u8)),
-    }
+/// Questions 16, 1, 2 and 3.
+fn ask_shape(turn: u32, width: usize, height: usize, layout: u32) -> Result<(), u32> {
+    ask_turn(turn)?;
+    mosaic::shape_refusal(width, height, layout).map_or(Ok(()), Err)
 }
 
 /// The turned width, height and layout.
-pub fn turned_shape(turn: u32, width: usize, height: usize, layout: u32) -> Result<(usize, usize, u8), u32> {
-    let (turn, layout) = asked(turn, width, height, layout)?;
+pub fn turned_shape(turn: u32, width: usize, height: usize, layout: u32) -> Result<(usize, usize, u32), u32> {
+    ask_shape(turn, width, height, layout)?;
     let frame = Frame { width, height, layout, samples: vec![0; width * height] }.turned(turn);
     Ok((frame.width, frame.height, frame.layout))
 }
@@ -104,8 +102,8 @@ pub fn turn_samples(
     layout: u32,
     samples: &[u16],
     out: &mut [u16],
-) -> Result<(usize, usize, u8), u32> {
-    let (turn, layout) = asked(turn, width, height, layout)?;
+) -> Result<(usize, usize, u32), u32> {
+    ask_shape(turn, width, height, layout)?;
     if samples.len() != width * height {
         return Err(6);
     }
@@ -122,15 +120,15 @@ pub type Turning = (u32, usize);
 
 /// What stands after a list of turning calls, and the turns of the accepted ones. Each call is given what the last accepted
 /// one before it left; a refused one changes nothing.
-pub fn after_list(frame: &Frame, list: &[Turning]) -> (Frame, Vec<u8>) {
+pub fn after_list(frame: &Frame, list: &[Turning]) -> (Frame, Vec<u32>) {
     let mut now = frame.clone();
     let mut accepted = Vec::new();
     for &(turn, length) in list {
         let mut second = vec![0; length];
-        let answer = turn_samples(turn, now.width, now.height, now.layout.into(), &now.samples, &mut second);
+        let answer = turn_samples(turn, now.width, now.height, now.layout, &now.samples, &mut second);
         if let Ok((width, height, layout)) = answer {
             now = Frame { width, height, layout, samples: second };
-            accepted.push(turn as u8);
+            accepted.push(turn);
         }
     }
     (now, accepted)
@@ -169,7 +167,7 @@ mod tests {
     }
 
     /// The colour of a place, as document 01 tells it.
-    fn colour(layout: u8, row: usize, column: usize) -> char {
+    fn colour(layout: u32, row: usize, column: usize) -> char {
         let (r, c) = red_parities(layout);
         match (row % 2 == r, column % 2 == c) {
             (true, true) => 'r',

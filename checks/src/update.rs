@@ -39,12 +39,12 @@ fn update_at(mosaic: &Mosaic, colour: Colour, first: &[u16], green: &mut [u16]) 
 pub fn update(
     width: usize,
     height: usize,
-    layout: u8,
+    layout: u32,
     mosaic: &[u16],
     green: &mut [u16],
     work: &mut [i32],
 ) -> Result<(), u32> {
-    if let Some(number) = shape_refusal(width, height, layout.into()) {
+    if let Some(number) = shape_refusal(width, height, layout) {
         return Err(number);
     }
     let count = width * height;

@@ -6,14 +6,14 @@ use checks::chance::Chance;
 use checks::estimate::estimate;
 use checks::mosaics::{kinds, longer_lengths, spike};
 use checks::refusals::{
-    answered, refusals, wrong_lengths, Counts, FrameCall, LARGEST, NO_LENGTH, NO_SAMPLE, SHAPES, TRIES,
+    answer_no, answered, refusals, wrong_lengths, Counts, FrameCall, LARGEST, NO_SAMPLE, SHAPES, TRIES,
     TRIES_IN_THE_LARGEST,
 };
 
 #[path = "../src/library.rs"]
 mod library;
 
-type Call = fn(usize, usize, u8, &[u16], [&mut [u16]; 3]) -> Result<(), u32>;
+type Call = fn(usize, usize, u32, &[u16], [&mut [u16]; 3]) -> Result<(), u32>;
 
 /// Red, green and blue.
 type Planes = [Buffer<u16>; 3];
@@ -23,14 +23,14 @@ type Planes = [Buffer<u16>; 3];
 struct Ask {
     width: usize,
     height: usize,
-    layout: u8,
+    layout: u32,
     mosaic: Vec<u16>,
     lent: [usize; 3],
 }
 
 impl Ask {
     /// With this mosaic, and each plane as long as it has to be.
-    fn of(width: usize, height: usize, layout: u8, mosaic: &[u16]) -> Ask {
+    fn of(width: usize, height: usize, layout: u32, mosaic: &[u16]) -> Ask {
         Ask { width, height, layout, mosaic: mosaic.to_vec(), lent: [width * height; 3] }
     }
 }
@@ -246,7 +246,7 @@ impl FrameCall for Ask {
     const QUESTIONS: &'static [u32] = &[1, 2, 3, 6, 7, 9];
 
     fn sound(chance: &mut Chance, width: usize, height: usize) -> Self {
-        let layout = chance.between(0, 3) as u8;
+        let layout = chance.between(0, 3) as u32;
         Ask::of(width, height, layout, &chance.samples(width * height))
     }
 
@@ -256,9 +256,7 @@ impl FrameCall for Ask {
         let mut ask = Ask::sound(chance, width, height);
         for question in questions {
             match question {
-                1 => ask.width = chance.one_of(&NO_LENGTH),
-                2 => ask.height = chance.one_of(&NO_LENGTH),
-                3 => ask.layout = chance.between(4, 255) as u8,
+                1..=3 => answer_no(chance, &mut ask, *question),
                 6 => {
                     let length = chance.one_of(&[count - 1, count + 1, 100]);
                     ask.mosaic = chance.samples(length);
@@ -270,12 +268,13 @@ impl FrameCall for Ask {
         ask
     }
 
-    fn told(self, width: usize, height: usize, layout: u8) -> Self {
-        Ask { width, height, layout, ..self }
+    fn size_mut(&mut self) -> [&mut usize; 2] {
+        [&mut self.width, &mut self.height]
     }
 
-    fn layout(&self) -> u8 {
-        self.layout
+    fn asked_mut(&mut self, question: u32) -> &mut u32 {
+        assert_eq!(question, 3);
+        &mut self.layout
     }
 
     fn number(&self, kind: &str) -> u32 {

@@ -9,7 +9,7 @@ use checks::mosaic::{Colour, Mosaic};
 use checks::mosaics::{filled, kinds, longer_lengths, spike};
 use checks::packet::Fields;
 use checks::planes_call::{self, settings, Call, Planes, PlanesCall, COLOURS};
-use checks::planes_call::{large_frames_refused, lengths_refused, samples_refused, settings_refused};
+use checks::planes_call::{large_frames_refused, lengths_refused, samples_refused};
 use checks::refusals::{refusals, sets, wrong_lengths, Counts, FrameCall, NO_TURN_OR_LAYOUT};
 use checks::rounds::rounds;
 use checks::turns::{after_list, Frame, Turning};
@@ -40,7 +40,7 @@ fn of_mosaic(chance: &mut Chance, fields: Fields, mosaic: &[u16]) -> Ask {
 }
 
 /// A random frame of this size with these rounds and this threshold.
-fn random(chance: &mut Chance, width: usize, height: usize, rounds: u8, threshold: u16) -> Ask {
+fn random(chance: &mut Chance, width: usize, height: usize, rounds: u32, threshold: u32) -> Ask {
     let ask = Ask::sound(chance, width, height);
     Ask { fields: Fields { rounds, threshold, ..ask.fields }, ..ask }
 }
@@ -51,7 +51,7 @@ fn small_sizes() -> impl Iterator<Item = (usize, usize)> {
 }
 
 /// All rounds and thresholds that are tried, with mosaics of kinds by chance.
-fn all_settings(chance: &mut Chance, width: usize, height: usize, layout: u8) {
+fn all_settings(chance: &mut Chance, width: usize, height: usize, layout: u32) {
     let kinds = kinds(chance, width, height);
     for (rounds, threshold) in settings(chance) {
         let (kind, mosaic) = &kinds[chance.place(kinds.len())];
@@ -61,7 +61,7 @@ fn all_settings(chance: &mut Chance, width: usize, height: usize, layout: u8) {
 }
 
 /// Mosaics of every kind, rounds and thresholds by chance: as they are, and with the opposite at the places of red and blue.
-fn all_kinds(chance: &mut Chance, width: usize, height: usize, layout: u8) {
+fn all_kinds(chance: &mut Chance, width: usize, height: usize, layout: u32) {
     for (kind, samples) in kinds(chance, width, height) {
         let fields = Fields { layout, ..chance.few_rounds(width, height) };
         of_mosaic(chance, fields, &samples).accepted(&kind);
@@ -244,7 +244,7 @@ fn random_list(chance: &mut Chance, width: usize, height: usize) -> Vec<Turning>
 }
 
 /// A frame with a mosaic of a kind by chance and few rounds or none.
-fn of_a_kind(chance: &mut Chance, width: usize, height: usize, layout: u8) -> Ask {
+fn of_a_kind(chance: &mut Chance, width: usize, height: usize, layout: u32) -> Ask {
     let (rounds, threshold) = chance.one_of(&[(0, 0), (1, 4095), (2, 0), (3, 20), (3, 300), (8, 1)]);
     let kinds = kinds(chance, width, height);
     let mosaic = &kinds[chance.place(kinds.len())].1;
@@ -345,7 +345,6 @@ fn the_limits_in_words() {
 #[test]
 fn refused() {
     refusals::<Ask>(|chance, counts| {
-        settings_refused::<Finishing>(chance, counts);
         lengths_refused::<Finishing>(chance, counts);
         samples_refused::<Finishing>(chance, counts);
         large_frames_refused::<Finishing>(counts);

@@ -111,7 +111,7 @@ fn a_text_for_every_number() {
 fn the_layouts_say_where_red_is() {
     for (name, layout) in LAYOUTS {
         let letters = name.strip_prefix("DEMOSAIC_").unwrap().chars();
-        let mosaic = Mosaic { width: 2, height: 2, layout: layout as u8, samples: &[0; 4] };
+        let mosaic = Mosaic { width: 2, height: 2, layout, samples: &[0; 4] };
         let places = [(0, 0), (0, 1), (1, 0), (1, 1)];
         let due = places.map(|(i, j)| match mosaic.colour(i, j) {
             Colour::Red => 'R',

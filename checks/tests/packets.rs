@@ -6,8 +6,8 @@ use checks::buffers::{assert_same, Buffer};
 use checks::chance::Chance;
 use checks::packet::{self, Fields, PRINTED};
 use checks::refusals::{
-    answered, refusals, sets, wrong_field, wrong_lengths, Counts, FrameCall, LARGEST, NO_SAMPLE, SHAPES,
-    TRIES, TRIES_IN_THE_LARGEST,
+    answer_no, answered, field_mut, refusals, sets, wrong_lengths, Counts, FrameCall, LARGEST, NO_SAMPLE,
+    SHAPES, TRIES, TRIES_IN_THE_LARGEST,
 };
 use checks::stores::{damaged, described, sound, wrong, Stores, QUESTIONS};
 
@@ -23,8 +23,7 @@ fn compared_fields(store: &[u8], kind: &str) -> Result<Fields, u32> {
     let what = format!("fields, {kind}: {}", described(store));
     let given = Buffer::given(store);
     let [mut width, mut height] = [(); 2].map(|_| Buffer::lent(1));
-    let [mut layout, mut rounds] = [(); 2].map(|_| Buffer::lent(1));
-    let mut threshold = Buffer::lent(1);
+    let [mut layout, mut rounds, mut threshold] = [(); 3].map(|_| Buffer::lent(1));
     let answer = library::packet_fields(
         given.inside(),
         width.number_mut(),
@@ -142,7 +141,7 @@ impl FrameCall for Writing {
         let mut ask = Writing::sound(chance, width, height);
         for question in questions {
             match question {
-                1..=5 => wrong_field(chance, &mut ask.fields, *question),
+                1..=5 => answer_no(chance, &mut ask, *question),
                 6 => {
                     let length = chance.one_of(&[count - 1, count + 1, 100]);
                     ask.samples = chance.samples(length);
@@ -154,12 +153,12 @@ impl FrameCall for Writing {
         ask
     }
 
-    fn told(self, width: usize, height: usize, layout: u8) -> Writing {
-        Writing { fields: Fields { width, height, layout, ..self.fields }, ..self }
+    fn size_mut(&mut self) -> [&mut usize; 2] {
+        [&mut self.fields.width, &mut self.fields.height]
     }
 
-    fn layout(&self) -> u8 {
-        self.fields.layout
+    fn asked_mut(&mut self, question: u32) -> &mut u32 {
+        field_mut(&mut self.fields, question)
     }
 
     fn number(&self, kind: &str) -> u32 {
@@ -328,20 +327,6 @@ fn the_printed_packet() {
     assert_eq!(compared_repeats(&PRINTED, &PRINTED, "printed"), Ok(true));
 }
 
-/// Questions 4 and 5, each answered no alone; and the ends of their ranges.
-fn settings_refused(chance: &mut Chance, counts: &mut Counts) {
-    for rounds in 0..=255 {
-        let mut ask = Writing::sound(chance, 5, 4);
-        ask.fields.rounds = rounds;
-        answered(&ask, if rounds <= 64 { 0 } else { 4 }, "every number of rounds", counts);
-    }
-    for threshold in (0..=65_535).step_by(7).chain([4095, 4096, 65_535]) {
-        let mut ask = Writing::sound(chance, 3, 2);
-        ask.fields.threshold = threshold;
-        answered(&ask, if threshold <= 4095 { 0 } else { 5 }, "a threshold", counts);
-    }
-}
-
 /// Questions 6 and 14, each answered no alone; and buffers that suffice.
 fn lengths_refused(chance: &mut Chance, counts: &mut Counts) {
     for (width, height) in SHAPES {
@@ -375,7 +360,6 @@ fn samples_refused(chance: &mut Chance, counts: &mut Counts) {
 #[test]
 fn refused_writings() {
     refusals::<Writing>(|chance, counts| {
-        settings_refused(chance, counts);
         lengths_refused(chance, counts);
         samples_refused(chance, counts);
     });

@@ -46,7 +46,7 @@ fn finished(beyond: Beyond, turn: u32, store: &[u8]) -> Result<(Fields, [u64; 2]
     (beyond.samples)(&fields).map_err(|number| (Call::Reading, number))?;
     let samples = packet::samples_of(part);
     let mut mosaic = vec![0; samples.len()];
-    let shape = turn_samples(turn, fields.width, fields.height, fields.layout.into(), &samples, &mut mosaic);
+    let shape = turn_samples(turn, fields.width, fields.height, fields.layout, &samples, &mut mosaic);
     let (width, height, layout) = shape.map_err(|number| (Call::Turning, number))?;
     let fields = Fields { width, height, layout, ..fields };
     (beyond.finish)(&fields).map_err(|number| (Call::Finishing, number))?;
@@ -245,7 +245,7 @@ fn a_mirrored_head() {
                 let found = after_name(&compared("a_mirrored_head", turn, vec![packet.clone()])[0]);
                 let colours = |line: &str| line.split_once(", ").unwrap().1.to_string();
                 assert_eq!(colours(&found), colours(&line), "head {head}, turn {turn}");
-                if upright.turned(head).turned(turn as u8) == upright {
+                if upright.turned(head).turned(turn) == upright {
                     assert_eq!(found, line, "head {head}, turn {turn}");
                 }
             }

@@ -8,7 +8,7 @@ use checks::mosaic::{Colour, Mosaic};
 use checks::mosaics::{kinds, longer_lengths, spike, Kind, OF_TWO};
 use checks::packet::Fields;
 use checks::planes_call::{self, largest, settings, Call, PlanesCall, COLOURS};
-use checks::planes_call::{large_frames_refused, lengths_refused, samples_refused, settings_refused};
+use checks::planes_call::{large_frames_refused, lengths_refused, samples_refused};
 use checks::refusals::{
     answered, refusals, Counts, FrameCall, NO_SAMPLE, SHAPES, TRIES, TRIES_IN_THE_LARGEST,
 };
@@ -51,7 +51,7 @@ fn estimated_and_unrelated(chance: &mut Chance, fields: Fields, (kind, mosaic): 
 }
 
 /// All rounds and thresholds that are tried, with mosaics of kinds by chance.
-fn all_settings(chance: &mut Chance, width: usize, height: usize, layout: u8) {
+fn all_settings(chance: &mut Chance, width: usize, height: usize, layout: u32) {
     let kinds = kinds(chance, width, height);
     for (rounds, threshold) in settings(chance) {
         let fields = Fields { width, height, layout, rounds, threshold };
@@ -220,16 +220,16 @@ fn case_k() {
 /// green is white the colours become 4,095 − T, where it is black they become T.
 #[test]
 fn every_threshold_by_hand() {
-    for threshold in 0..=4095 {
+    for threshold in 0..=4095_u16 {
         for of_two in OF_TWO {
-            let layout = threshold % 4;
-            let fields = Fields { width: 2, height: 2, layout: layout as u8, rounds: 1, threshold };
+            let layout = u32::from(threshold % 4);
+            let fields = Fields { width: 2, height: 2, layout, rounds: 1, threshold: threshold.into() };
             let planes = [of_two(0, 4095), of_two(4095, 0), of_two(0, 4095)].map(|plane| plane.to_vec());
             let [red, _, blue] = Ask::of(fields, &[7; 4], planes).accepted("opposites");
             let mut due = [of_two(4095 - threshold, threshold); 2];
             // red sits at the place of the layout's number, blue at the opposite one
-            due[0][usize::from(layout)] = 7;
-            due[1][usize::from(3 - layout)] = 7;
+            due[0][layout as usize] = 7;
+            due[1][3 - layout as usize] = 7;
             assert_eq!([red, blue], due, "{fields:?}");
         }
     }
@@ -269,7 +269,6 @@ fn planes_of_large_frames_refused(counts: &mut Counts) {
 #[test]
 fn refused() {
     refusals::<Ask>(|chance, counts| {
-        settings_refused::<Rounds>(chance, counts);
         lengths_refused::<Rounds>(chance, counts);
         samples_refused::<Rounds>(chance, counts);
         planes_refused(chance, counts);

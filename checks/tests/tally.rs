@@ -7,13 +7,16 @@ use checks::packet::Fields;
 #[path = "../src/library.rs"]
 mod library;
 
+/// Where smaller numbers end, and where these do.
+const BORDERS: [u32; 7] = [0, 1 << 7, 1 << 8, 1 << 15, 1 << 16, 1 << 24, 1 << 31];
+
 /// A finishing call: its number, and its rounds.
-type Finishing = (u32, u8);
+type Finishing = (u32, u32);
 
 /// Accepted or refused by chance. Only an accepted call has 64 rounds or less for sure.
 fn random_call(chance: &mut Chance) -> Finishing {
-    let accepted = (0, chance.between(0, 64) as u8);
-    let refused = (chance.between(1, 17) as u32, chance.between(0, 255) as u8);
+    let accepted = (0, chance.between(0, 64) as u32);
+    let refused = (chance.between(1, 17) as u32, chance.between(0, u32::MAX.into()) as u32);
     chance.one_of(&[accepted, accepted, refused])
 }
 
@@ -41,15 +44,59 @@ fn from_zero() {
 /// Every call, where the counts lie near their ends or near an end of smaller numbers.
 #[test]
 fn at_borders() {
-    let borders = [0, 1 << 7, 1 << 8, 1 << 15, 1 << 16, 1 << 24, 1 << 31];
-    let near = |border: u32| (0..66).flat_map(move |k| [border.wrapping_sub(k), border.wrapping_add(k)]);
-    for count in borders.into_iter().flat_map(near) {
+    for count in beside(&BORDERS, 66) {
         let before = Tally { finished: count, refused: count, rounds: count };
         for rounds in 0..=64 {
             compared(before, (0, rounds));
         }
         for number in 1..=17 {
             compared(before, (number, 64));
+        }
+    }
+}
+
+/// Numbers beside these, up to so far away; beside 0, the largest too.
+fn beside(borders: &[u32], far: u32) -> Vec<u32> {
+    let both_sides =
+        |&border: &u32| (0..far).flat_map(move |k| [border.wrapping_sub(k), border.wrapping_add(k)]);
+    borders.iter().flat_map(both_sides).collect()
+}
+
+/// Nothing is asked of the rounds: after an accepted call any number of them is added, whatever fewer bits would make of it.
+/// After a refused one none is, and every number but 0 is a refusal's.
+#[test]
+fn any_rounds_and_any_number() {
+    let wide =
+        beside(&BORDERS, 3).into_iter().chain([320, 65_536 + 20, 0x0100_0040, 0xffff_0000, 0xffff_ff00]);
+    let wide: Vec<u32> = wide.collect();
+    for &count in &wide {
+        let before = Tally { finished: count, refused: count, rounds: count };
+        for &rounds in &wide {
+            // as far as the count goes, and one more
+            for rounds in [rounds, u32::MAX - count, (u32::MAX - count).saturating_add(1)] {
+                compared(before, (0, rounds));
+            }
+            for &number in &wide {
+                compared(before, (number, rounds));
+            }
+        }
+    }
+    assert_eq!(library::next_tally(Tally::default(), 0, 320).rounds, 320);
+    assert_eq!(library::next_tally(Tally::default(), 0, u32::MAX).rounds, u32::MAX);
+    assert_eq!(library::next_tally(Tally::default(), 256, 320), Tally { refused: 1, ..Tally::default() });
+}
+
+/// Lists from zero in which rounds are any numbers, so that their count soon ends.
+#[test]
+fn from_zero_with_any_rounds() {
+    let chance = &mut Chance(0xfedc_ba98_7654_3210);
+    for most in [255, 256, 65_535, 65_536, 1 << 24, u32::MAX] {
+        for length in [1, 2, 3, 10, 100, 1000] {
+            let rounds = |chance: &mut Chance| chance.between(0, most.into()) as u32;
+            let history: Vec<_> =
+                (0..length).map(|_| (chance.one_of(&[0, 0, 4, 256]), rounds(chance))).collect();
+            let tally = history.iter().fold(Tally::default(), |tally, &call| compared(tally, call));
+            assert_eq!(tally, Tally::of(&history), "{length} calls of up to {most} rounds");
         }
     }
 }

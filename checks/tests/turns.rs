@@ -6,8 +6,8 @@ use checks::buffers::{assert_same, Buffer};
 use checks::chance::Chance;
 use checks::mosaics::longer_lengths;
 use checks::refusals::{
-    answered, refusals, sets, wrong_lengths, Counts, FrameCall, LARGEST, NO_LENGTH, NO_TURN_OR_LAYOUT,
-    SHAPES, TRIES_IN_THE_LARGEST,
+    answer_no, answered, refusals, wrong_lengths, FrameCall, LARGEST, NO_TURN_OR_LAYOUT, SHAPES,
+    TRIES_IN_THE_LARGEST,
 };
 use checks::turns::{after_list, then_another, turn_samples, turned_shape, Frame};
 use library::{Shape, Turned};
@@ -36,12 +36,12 @@ impl Handed {
     }
 
     /// They hold what is due; where the call is refused, what they held before.
-    fn assert_due(&self, due: Result<(usize, usize, u8), u32>, what: &str) {
+    fn assert_due(&self, due: Result<(usize, usize, u32), u32>, what: &str) {
         match due {
             Ok((width, height, layout)) => {
                 self.width.assert_holds(&[width], &format!("{what}: width"));
                 self.height.assert_holds(&[height], &format!("{what}: height"));
-                self.layout.assert_holds(&[layout.into()], &format!("{what}: layout"));
+                self.layout.assert_holds(&[layout], &format!("{what}: layout"));
             }
             Err(_) => {
                 self.width.assert_untouched(&format!("{what}: width, refused"));
@@ -50,11 +50,6 @@ impl Handed {
             }
         }
     }
-}
-
-/// A call that is given a turn, a width, a height and a layout.
-trait OfShape: FrameCall {
-    fn shape_mut(&mut self) -> &mut Shape;
 }
 
 /// What the turning call is asked with: the shape, the samples and the length of the second buffer.
@@ -93,12 +88,6 @@ impl Turning {
     }
 }
 
-impl OfShape for Turning {
-    fn shape_mut(&mut self) -> &mut Shape {
-        &mut self.shape
-    }
-}
-
 impl FrameCall for Turning {
     const NAME: &'static str = "turn";
     const QUESTIONS: &'static [u32] = &[16, 1, 2, 3, 6, 7];
@@ -117,18 +106,18 @@ impl FrameCall for Turning {
             match question {
                 6 => ask.samples = chance.any_samples(length),
                 7 => ask.out = length,
-                of_the_shape => ask.shape.answer_no(chance, *of_the_shape),
+                _ => answer_no(chance, &mut ask, *question),
             }
         }
         ask
     }
 
-    fn told(self, width: usize, height: usize, layout: u8) -> Turning {
-        Turning { shape: self.shape.told(width, height, layout), ..self }
+    fn size_mut(&mut self) -> [&mut usize; 2] {
+        self.shape.size_mut()
     }
 
-    fn layout(&self) -> u8 {
-        self.shape.layout()
+    fn asked_mut(&mut self, question: u32) -> &mut u32 {
+        self.shape.asked_mut(question)
     }
 
     fn number(&self, kind: &str) -> u32 {
@@ -138,24 +127,12 @@ impl FrameCall for Turning {
 
 impl Shape {
     fn of(turn: u32, frame: &Frame) -> Shape {
-        Shape { turn, width: frame.width, height: frame.height, layout: frame.layout.into() }
-    }
-
-    /// Answers one of questions 16, 1, 2 and 3 no.
-    fn answer_no(&mut self, chance: &mut Chance, question: u32) {
-        let (any, none) = (chance.between(8, u32::MAX.into()) as u32, chance.one_of(&NO_TURN_OR_LAYOUT));
-        match question {
-            16 => self.turn = chance.one_of(&[any, any % 248 + 8, none]),
-            1 => self.width = chance.one_of(&NO_LENGTH),
-            2 => self.height = chance.one_of(&NO_LENGTH),
-            3 => self.layout = chance.one_of(&[any, any % 252 + 4, none]),
-            _ => panic!("a shape has no question {question}"),
-        }
+        Shape { turn, width: frame.width, height: frame.height, layout: frame.layout }
     }
 
     /// Asks the library and the reference alike, compares the answers, the three numbers and the places beside them, and
     /// hands back the library's answer.
-    fn compared(&self, kind: &str) -> Result<(usize, usize, u8), u32> {
+    fn compared(&self, kind: &str) -> Result<(usize, usize, u32), u32> {
         let what = format!("turned shape of {self:?}, {kind}");
         let mut handed = Handed::lent();
         let answer = library::turned_shape(*self, handed.turned());
@@ -163,12 +140,6 @@ impl Shape {
         assert_eq!(answer, due.map(|_| ()), "{what}");
         handed.assert_due(due, &what);
         due
-    }
-}
-
-impl OfShape for Shape {
-    fn shape_mut(&mut self) -> &mut Shape {
-        self
     }
 }
 
@@ -184,16 +155,20 @@ impl FrameCall for Shape {
     fn wrong(chance: &mut Chance, questions: &[u32]) -> Shape {
         let (width, height) = (chance.between(2, 9) as usize, chance.between(2, 9) as usize);
         let mut ask = Shape::sound(chance, width, height);
-        questions.iter().for_each(|question| ask.answer_no(chance, *question));
+        questions.iter().for_each(|question| answer_no(chance, &mut ask, *question));
         ask
     }
 
-    fn told(self, width: usize, height: usize, layout: u8) -> Shape {
-        Shape { width, height, layout: layout.into(), ..self }
+    fn size_mut(&mut self) -> [&mut usize; 2] {
+        [&mut self.width, &mut self.height]
     }
 
-    fn layout(&self) -> u8 {
-        self.layout as u8
+    fn asked_mut(&mut self, question: u32) -> &mut u32 {
+        match question {
+            16 => &mut self.turn,
+            3 => &mut self.layout,
+            _ => panic!("no number of a shape has question {question}"),
+        }
     }
 
     fn number(&self, kind: &str) -> u32 {
@@ -203,7 +178,7 @@ impl FrameCall for Shape {
 
 /// A frame of any 16-bit samples.
 fn random(chance: &mut Chance, width: usize, height: usize) -> Frame {
-    let layout = chance.between(0, 3) as u8;
+    let layout = chance.between(0, 3) as u32;
     Frame { width, height, layout, samples: chance.any_samples(width * height) }
 }
 
@@ -223,7 +198,7 @@ fn compared_then_another(turn: u32, next: u32) -> Result<u32, u32> {
     let due = then_another(turn, next);
     assert_eq!(answer, due.map(|_| ()), "{what}");
     match due {
-        Ok(due) => single.assert_holds(&[due.into()], &what),
+        Ok(due) => single.assert_holds(&[due], &what),
         Err(_) => single.assert_untouched(&format!("{what}, refused")),
     }
     answer.map(|()| *single.number_mut())
@@ -392,42 +367,9 @@ fn lists_of_turning_calls() {
     }
 }
 
-/// Question 16 alone, of every turn.
-fn turns_refused<C: OfShape>(chance: &mut Chance, counts: &mut Counts) {
-    for (width, height) in SHAPES {
-        for turn in any_number() {
-            let mut ask = C::sound(chance, width, height);
-            ask.shape_mut().turn = turn;
-            answered(&ask, if turn < 8 { 0 } else { 16 }, "every turn", counts);
-        }
-    }
-}
-
-/// Every turn and layout that is none, alone and with every set of the other questions answered no: neither is asked too
-/// early or too late, however wide it is.
-fn none_in_its_place<C: OfShape>(chance: &mut Chance, counts: &mut Counts) {
-    for questions in sets(C::QUESTIONS) {
-        let kind = format!("{questions:?} answered no");
-        let nones = NO_TURN_OR_LAYOUT;
-        for (turn, layout) in nones.into_iter().flat_map(|turn| nones.map(|layout| (turn, layout))) {
-            let mut ask = C::wrong(chance, &questions);
-            let shape = ask.shape_mut();
-            if questions.contains(&16) {
-                shape.turn = turn;
-            }
-            if questions.contains(&3) {
-                shape.layout = layout;
-            }
-            answered(&ask, questions.first().copied().unwrap_or(0), &kind, counts);
-        }
-    }
-}
-
 #[test]
 fn refused_turning_calls() {
     refusals::<Turning>(|chance, counts| {
-        turns_refused::<Turning>(chance, counts);
-        none_in_its_place::<Turning>(chance, counts);
         for (width, height) in SHAPES {
             let sound = Turning::sound(chance, width, height);
             for length in wrong_lengths(width, height) {
@@ -442,8 +384,5 @@ fn refused_turning_calls() {
 
 #[test]
 fn refused_shapes() {
-    refusals::<Shape>(|chance, counts| {
-        turns_refused::<Shape>(chance, counts);
-        none_in_its_place::<Shape>(chance, counts);
-    });
+    refusals::<Shape>(|_, _| ());
 }

@@ -7,7 +7,7 @@ use checks::estimate::estimates_of;
 use checks::low_band::{at_every_place, weights};
 use checks::mosaics::{filled, kinds, longer_lengths, spike};
 use checks::refusals::{
-    answered, refusals, short_work, sufficient_work, wrong_lengths, Counts, FrameCall, LARGEST, NO_LENGTH,
+    answer_no, answered, refusals, short_work, sufficient_work, wrong_lengths, Counts, FrameCall, LARGEST,
     NO_SAMPLE, SHAPES, TRIES, TRIES_IN_THE_LARGEST,
 };
 use checks::update::update;
@@ -15,14 +15,14 @@ use checks::update::update;
 #[path = "../src/library.rs"]
 mod library;
 
-type Call = fn(usize, usize, u8, &[u16], &mut [u16], &mut [i32]) -> Result<(), u32>;
+type Call = fn(usize, usize, u32, &[u16], &mut [u16], &mut [i32]) -> Result<(), u32>;
 
 /// What the call is asked with: the shape, the mosaic, green and the length of the work buffer.
 #[derive(Clone)]
 struct Ask {
     width: usize,
     height: usize,
-    layout: u8,
+    layout: u32,
     mosaic: Vec<u16>,
     green: Vec<u16>,
     work: usize,
@@ -30,7 +30,7 @@ struct Ask {
 
 impl Ask {
     /// With this mosaic and green, and a work buffer as long as it has to be.
-    fn of(width: usize, height: usize, layout: u8, mosaic: &[u16], green: &[u16]) -> Ask {
+    fn of(width: usize, height: usize, layout: u32, mosaic: &[u16], green: &[u16]) -> Ask {
         let (mosaic, green) = (mosaic.to_vec(), green.to_vec());
         Ask { width, height, layout, mosaic, green, work: 8 * width * height }
     }
@@ -71,13 +71,13 @@ fn accepted(ask: &Ask, kind: &str) -> Vec<u16> {
 }
 
 /// The estimate of green.
-fn estimated_green(width: usize, height: usize, layout: u8, mosaic: &[u16]) -> Vec<u16> {
+fn estimated_green(width: usize, height: usize, layout: u32, mosaic: &[u16]) -> Vec<u16> {
     let [_, green, _] = estimates_of(width, height, layout, mosaic);
     green
 }
 
 /// Mosaics of every kind: with the estimate of green, and with two greens of a kind by chance.
-fn all_kinds(chance: &mut Chance, width: usize, height: usize, layout: u8) {
+fn all_kinds(chance: &mut Chance, width: usize, height: usize, layout: u32) {
     let greens = kinds(chance, width, height);
     for (kind, mosaic) in kinds(chance, width, height) {
         let green = estimated_green(width, height, layout, &mosaic);
@@ -91,7 +91,7 @@ fn all_kinds(chance: &mut Chance, width: usize, height: usize, layout: u8) {
 }
 
 /// One value unlike all others, at every place, in the mosaic or in green.
-fn spikes(width: usize, height: usize, layout: u8) {
+fn spikes(width: usize, height: usize, layout: u32) {
     let count = width * height;
     for place in 0..count {
         for (value, others) in [(4095, 0), (0, 4095), (1000, 1001)] {
@@ -110,7 +110,7 @@ fn every_small_size() {
     for width in 2..=12 {
         for height in 2..=12 {
             (0..4).for_each(|layout| all_kinds(chance, width, height, layout));
-            spikes(width, height, chance.between(0, 3) as u8);
+            spikes(width, height, chance.between(0, 3) as u32);
         }
     }
 }
@@ -120,7 +120,7 @@ fn longer_lines() {
     let chance = &mut Chance(0x0123_4567_89ab_cdef);
     for length in longer_lengths() {
         for other in [2, 3, 6] {
-            let [one, another] = [(); 2].map(|_| chance.between(0, 3) as u8);
+            let [one, another] = [(); 2].map(|_| chance.between(0, 3) as u32);
             all_kinds(chance, length, other, one);
             all_kinds(chance, other, length, another);
         }
@@ -252,7 +252,7 @@ impl FrameCall for Ask {
     const QUESTIONS: &'static [u32] = &[1, 2, 3, 6, 8, 9, 10];
 
     fn sound(chance: &mut Chance, width: usize, height: usize) -> Self {
-        let layout = chance.between(0, 3) as u8;
+        let layout = chance.between(0, 3) as u32;
         let (mosaic, green) = (chance.samples(width * height), chance.samples(width * height));
         Ask::of(width, height, layout, &mosaic, &green)
     }
@@ -263,9 +263,7 @@ impl FrameCall for Ask {
         let mut ask = Ask::sound(chance, width, height);
         for question in questions {
             match question {
-                1 => ask.width = chance.one_of(&NO_LENGTH),
-                2 => ask.height = chance.one_of(&NO_LENGTH),
-                3 => ask.layout = chance.between(4, 255) as u8,
+                1..=3 => answer_no(chance, &mut ask, *question),
                 6 => {
                     let length = chance.one_of(&[count - 1, count + 1, 100]);
                     let buffer = if chance.between(0, 1) == 0 { &mut ask.mosaic } else { &mut ask.green };
@@ -279,12 +277,13 @@ impl FrameCall for Ask {
         ask
     }
 
-    fn told(self, width: usize, height: usize, layout: u8) -> Self {
-        Ask { width, height, layout, ..self }
+    fn size_mut(&mut self) -> [&mut usize; 2] {
+        [&mut self.width, &mut self.height]
     }
 
-    fn layout(&self) -> u8 {
-        self.layout
+    fn asked_mut(&mut self, question: u32) -> &mut u32 {
+        assert_eq!(question, 3);
+        &mut self.layout
     }
 
     fn number(&self, kind: &str) -> u32 {

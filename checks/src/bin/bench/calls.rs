@@ -7,8 +7,8 @@ use checks::packet::Fields;
 pub struct Calls {
     pub split: fn(usize, usize, &[i32], [&mut [i32]; 4]) -> Result<(), u32>,
     pub join: fn(usize, usize, [&[i32]; 4], &mut [i32]) -> Result<(), u32>,
-    pub estimate: fn(usize, usize, u8, &[u16], [&mut [u16]; 3]) -> Result<(), u32>,
-    pub update: fn(usize, usize, u8, &[u16], &mut [u16], &mut [i32]) -> Result<(), u32>,
+    pub estimate: fn(usize, usize, u32, &[u16], [&mut [u16]; 3]) -> Result<(), u32>,
+    pub update: fn(usize, usize, u32, &[u16], &mut [u16], &mut [i32]) -> Result<(), u32>,
     pub rounds: fn(&Fields, &[u16], &mut [u16], &[u16], &mut [u16], &mut [i32]) -> Result<(), u32>,
     pub finish: fn(&Fields, &[u16], [&mut [u16]; 3], &mut [i32]) -> Result<(), u32>,
 }

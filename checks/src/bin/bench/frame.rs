@@ -13,7 +13,7 @@ use std::time::Duration;
 
 /// A mosaic that looks like a picture: slow changes of light, rings and bars with hard edges, a tint for each
 /// colour, noise.
-pub fn picture(chance: &mut Chance, width: usize, height: usize, layout: u8) -> Vec<u16> {
+pub fn picture(chance: &mut Chance, width: usize, height: usize, layout: u32) -> Vec<u16> {
     let mosaic = Mosaic { width, height, layout, samples: &[] };
     filled(width, height, |i, j| {
         let (y, x) = (i as f64 / height as f64, j as f64 / width as f64);
@@ -48,7 +48,7 @@ impl Lent {
 pub struct Frame {
     width: usize,
     height: usize,
-    layout: u8,
+    layout: u32,
     mosaic: Vec<u16>,
     green: Vec<u16>,
     given: [Vec<u16>; 3],
@@ -56,7 +56,7 @@ pub struct Frame {
 }
 
 impl Frame {
-    pub fn new(width: usize, height: usize, layout: u8, mosaic: Vec<u16>) -> Frame {
+    pub fn new(width: usize, height: usize, layout: u32, mosaic: Vec<u16>) -> Frame {
         let lent = Lent::new(mosaic.len());
         let (green, given) = (lent.planes[1].clone(), lent.planes.clone());
         let mut frame = Frame { width, height, layout, mosaic, green, given, lent };
@@ -67,7 +67,7 @@ impl Frame {
         frame
     }
 
-    fn fields(&self, rounds: u8, threshold: u16) -> Fields {
+    fn fields(&self, rounds: u32, threshold: u32) -> Fields {
         Fields { width: self.width, height: self.height, layout: self.layout, rounds, threshold }
     }
 
@@ -87,7 +87,7 @@ impl Frame {
     }
 
     /// From the estimates with green updated on.
-    pub fn rounds(&mut self, calls: &Calls, rounds: u8, threshold: u16) -> Result<Duration, u32> {
+    pub fn rounds(&mut self, calls: &Calls, rounds: u32, threshold: u32) -> Result<Duration, u32> {
         let fields = self.fields(rounds, threshold);
         let Lent { planes, work } = &mut self.lent;
         planes.clone_from(&self.given);
@@ -96,7 +96,7 @@ impl Frame {
         timed(|| (calls.rounds)(&fields, mosaic, red, green, blue, work))
     }
 
-    pub fn finish(&mut self, calls: &Calls, rounds: u8, threshold: u16) -> Result<Duration, u32> {
+    pub fn finish(&mut self, calls: &Calls, rounds: u32, threshold: u32) -> Result<Duration, u32> {
         let fields = self.fields(rounds, threshold);
         let planes = self.lent.planes.each_mut().map(|plane| &mut plane[..]);
         let (mosaic, work) = (black_box(&self.mosaic), black_box(&mut self.lent.work));

@@ -21,10 +21,10 @@ mod table;
 const SIDES: [usize; 3] = [256, 1024, 2048];
 
 /// The rounds and thresholds that finishing is timed with. Without rounds the threshold has nothing to do.
-const FINISHED: [(u8, u16); 5] = [(0, 20), (8, 0), (8, 20), (64, 0), (64, 20)];
+const FINISHED: [(u32, u32); 5] = [(0, 20), (8, 0), (8, 20), (64, 0), (64, 20)];
 
 /// A round's time is that of so many rounds less that of one: what a call does once does not count in it.
-const MORE: u8 = 5;
+const MORE: u32 = 5;
 
 /// Small frames of every layout, pictures and chance, and the bank's smallest planes.
 fn check_small(chance: &mut Chance) {
@@ -46,11 +46,11 @@ fn check_small(chance: &mut Chance) {
 }
 
 /// The time of one round of both colours.
-fn round_times(frame: &mut Frame, threshold: u16) -> Times {
+fn round_times(frame: &mut Frame, threshold: u32) -> Times {
     let [library, clang, gcc] = PROGRAMS;
     let calls = [(library, 1), (clang, 1), (gcc, 1), (library, MORE), (clang, MORE), (gcc, MORE)];
     let times = least_times(calls, |(calls, rounds)| frame.rounds(calls, rounds, threshold));
-    [0, 1, 2].map(|k| times[3 + k].saturating_sub(times[k]) / u32::from(MORE - 1))
+    [0, 1, 2].map(|k| times[3 + k].saturating_sub(times[k]) / (MORE - 1))
 }
 
 fn time_bank(table: &mut Table, side: usize, samples: &[u16]) {
