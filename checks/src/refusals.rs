@@ -28,7 +28,7 @@ pub const NO_TURN_OR_LAYOUT: [u32; 14] = [
 ];
 
 /// The questions about numbers that have 32 bits in C, and the largest number that each allows.
-const LARGEST_ALLOWED: [(u32, u32); 4] = [(16, 7), (3, 3), (4, 64), (5, 4095)];
+pub const LARGEST_ALLOWED: [(u32, u32); 4] = [(16, 7), (3, 3), (4, 64), (5, 4095)];
 
 /// Numbers above `most`. Nearly all of them would be in range in fewer bits or with a sign: a bit or several above those of
 /// `most`, and below them a number in range.
@@ -40,7 +40,7 @@ fn above(most: u32) -> Vec<u32> {
 }
 
 /// A number that this question refuses: one that a packet could hold, any of 32 bits, or one that fewer would hide.
-fn wrong_number(chance: &mut Chance, question: u32) -> u32 {
+pub fn wrong_number(chance: &mut Chance, question: u32) -> u32 {
     let (_, most) = LARGEST_ALLOWED.into_iter().find(|(other, _)| *other == question).expect("a number");
     let narrow = if most < 256 { 255 } else { 65_535 };
     let [held, any] = [narrow, u32::MAX].map(|end| chance.between(u64::from(most) + 1, end.into()) as u32);

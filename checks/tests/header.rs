@@ -77,6 +77,25 @@ fn the_header_declares_what_the_source_has() {
     assert_eq!(header["demosaic_bring_back"], "uint16_t demosaic_bring_back(int32_t sum)");
 }
 
+/// Turn, layout, rounds and threshold, given or handed back: fewer bits in one call would hide a value from its question.
+#[test]
+fn the_numbers_that_are_asked_about_have_32_bits() {
+    let names = ["turn", "next", "single", "layout", "turned_layout", "rounds", "threshold"];
+    let mut found = 0;
+    for (function, prototype) in Header::read().prototypes() {
+        let (_, parameters) = prototype.strip_suffix(')').unwrap().split_once('(').unwrap();
+        for parameter in parameters.split(", ") {
+            let (kind, name) = parameter.rsplit_once(' ').unwrap();
+            if names.contains(&name) {
+                assert!(["uint32_t", "uint32_t *"].contains(&kind), "{parameter} of {function}");
+                found += 1;
+            }
+        }
+    }
+    // seven calls have three each, three have one
+    assert_eq!(found, 24);
+}
+
 /// Every edit of this kind, wherever the header's declarations have its words, is noticed.
 #[test]
 fn a_wrong_prototype_is_noticed() {

@@ -66,9 +66,8 @@ fn beside(borders: &[u32], far: u32) -> Vec<u32> {
 /// After a refused one none is, and every number but 0 is a refusal's.
 #[test]
 fn any_rounds_and_any_number() {
-    let wide =
-        beside(&BORDERS, 3).into_iter().chain([320, 65_536 + 20, 0x0100_0040, 0xffff_0000, 0xffff_ff00]);
-    let wide: Vec<u32> = wide.collect();
+    let mut wide = beside(&BORDERS, 3);
+    wide.extend([320, 65_536 + 20, (1 << 24) + 64, 0xffff_0000, 0xffff_ff00]);
     for &count in &wide {
         let before = Tally { finished: count, refused: count, rounds: count };
         for &rounds in &wide {
