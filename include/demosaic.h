@@ -16,8 +16,8 @@ extern "C" {
  * hands back beside its number stands behind pointers, and is written only where the answer is 0.
  *
  * Numbers. Turn, layout, rounds and threshold have 32 bits in every call, in and out, so that no conversion hides a
- * value from its question: 320 rounds are refused, where a byte would have made them 64. A caller who holds one of
- * them in 64 bits has to keep it below 2 to the power of 32.
+ * value from its question: 320 rounds are refused, where a byte would have made them 64. Only from a type of 64 bits
+ * would C still cut them.
  *
  * Buffers. Each is a pointer and how many numbers it has (never how many bytes, but for bytes). Mosaics, planes and
  * bands are width * height numbers, row by row. The work buffer may hold anything before; after an accepted call its

@@ -32,14 +32,14 @@ impl Number for u16 {
 }
 
 impl Number for u32 {
-    /// No layout and no turn.
+    /// No turn, no layout, no rounds and no threshold; no byte of it is 0.
     fn pattern(k: usize) -> u32 {
         4_294_967_295 - k as u32
     }
 }
 
 impl Number for u8 {
-    /// No layout, no number of rounds, neither yes nor no.
+    /// Neither yes nor no.
     fn pattern(k: usize) -> u8 {
         255 - (k % 190) as u8
     }

@@ -9,6 +9,12 @@ use crate::packet::Fields;
 pub const NO_LENGTH: [usize; 10] =
     [0, 2049, 2050, 4096, 65_536, 65_539, 1 << 32, (1 << 32) + 3, (1 << 63) + 3, usize::MAX];
 
+/// A width or a height that no frame has. Half of them are 1, which the bank alone takes.
+pub fn no_side(chance: &mut Chance) -> usize {
+    let no_length = chance.one_of(&NO_LENGTH);
+    chance.one_of(&[1, no_length])
+}
+
 /// Neither turns nor layouts. Some of them would be both in fewer bits.
 pub const NO_TURN_OR_LAYOUT: [u32; 14] = [
     8,
@@ -145,8 +151,8 @@ pub trait FrameCall: Clone {
 pub fn answer_no<C: FrameCall>(chance: &mut Chance, call: &mut C, question: u32) {
     let [width, height] = call.size_mut();
     match question {
-        1 => *width = chance.one_of(&NO_LENGTH),
-        2 => *height = chance.one_of(&NO_LENGTH),
+        1 => *width = no_side(chance),
+        2 => *height = no_side(chance),
         of_a_number => *call.asked_mut(of_a_number) = wrong_number(chance, of_a_number),
     }
 }

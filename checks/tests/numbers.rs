@@ -8,7 +8,7 @@ use checks::compiled::{compile, in_repository, C};
 use checks::estimate::estimate;
 use checks::finishing::{finish, Tally};
 use checks::packet::{self, Fields};
-use checks::refusals::{field_mut, sets, wrong_number, LARGEST_ALLOWED, NO_LENGTH};
+use checks::refusals::{field_mut, no_side, sets, wrong_number, LARGEST_ALLOWED};
 use checks::rounds::rounds;
 use checks::text::assert_same;
 use checks::turns::{then_another, turn_samples, turned_shape};
@@ -30,8 +30,8 @@ fn line(chance: &mut Chance, questions: &[u32]) -> Line {
     for &question in questions {
         match question {
             16 => turn = wrong_number(chance, 16),
-            1 => fields.width = chance.one_of(&NO_LENGTH),
-            2 => fields.height = chance.one_of(&NO_LENGTH),
+            1 => fields.width = no_side(chance),
+            2 => fields.height = no_side(chance),
             _ => *field_mut(&mut fields, question) = wrong_number(chance, question),
         }
     }

@@ -139,8 +139,15 @@ impl Frame {
         }
     }
 
-    /// All ask whether the samples are in range, of the last one too: of each given plane, and of the mosaic.
+    /// All ask of numbers that do not fit a byte or 16 bits, and whether the samples are in range, of the last one too: of
+    /// each given plane, and of the mosaic.
     pub fn check_refused(&mut self) {
+        for (rounds, threshold, number) in [(320, 20, 4), (1, 65_536 + 20, 5)] {
+            let answer = self.alike("rounds", |frame, calls| frame.rounds(calls, rounds, threshold));
+            assert_eq!(answer, Some(number));
+            let answer = self.alike("finishing", |frame, calls| frame.finish(calls, rounds, threshold));
+            assert_eq!(answer, Some(number));
+        }
         let last = self.mosaic.len() - 1;
         for plane in 0..3 {
             let sample = replace(&mut self.given[plane][last], 4096);
