@@ -15,30 +15,12 @@ pub fn no_side(chance: &mut Chance) -> usize {
     chance.one_of(&[1, no_length])
 }
 
-/// Neither turns nor layouts. Some of them would be both in fewer bits.
-pub const NO_TURN_OR_LAYOUT: [u32; 14] = [
-    8,
-    9,
-    255,
-    256,
-    259,
-    263,
-    65_536,
-    65_539,
-    1 << 24,
-    (1 << 24) + 3,
-    1 << 31,
-    (1 << 31) + 3,
-    u32::MAX - 3,
-    u32::MAX,
-];
-
 /// The questions about numbers that have 32 bits in C, and the largest number that each allows.
 pub const LARGEST_ALLOWED: [(u32, u32); 4] = [(16, 7), (3, 3), (4, 64), (5, 4095)];
 
 /// Numbers above `most`. Nearly all of them would be in range in fewer bits or with a sign: a bit or several above those of
 /// `most`, and below them a number in range.
-fn above(most: u32) -> Vec<u32> {
+pub fn above(most: u32) -> Vec<u32> {
     let one_bit = (0..32).map(|bit| 1 << bit);
     let several = [768, 0xff00, 0x3_0000, 0xff_0000, 0xffff_0000, 0xffff_ff00];
     let upper = one_bit.chain(several).filter(|&upper| upper > most);

@@ -10,7 +10,7 @@ use checks::mosaics::{filled, kinds, longer_lengths, spike};
 use checks::packet::Fields;
 use checks::planes_call::{self, settings, Call, Planes, PlanesCall, COLOURS};
 use checks::planes_call::{large_frames_refused, lengths_refused, samples_refused};
-use checks::refusals::{refusals, sets, wrong_lengths, Counts, FrameCall, NO_TURN_OR_LAYOUT};
+use checks::refusals::{refusals, sets, wrong_lengths, wrong_number, Counts, FrameCall};
 use checks::rounds::rounds;
 use checks::turns::{after_list, Frame, Turning};
 
@@ -235,7 +235,7 @@ fn random_list(chance: &mut Chance, width: usize, height: usize) -> Vec<Turning>
     let wrong = wrong_lengths(width, height);
     let mut list = Vec::new();
     for _ in 0..chance.between(0, 6) {
-        let (turn, no_turn) = (chance.between(0, 7) as u32, chance.one_of(&NO_TURN_OR_LAYOUT));
+        let (turn, no_turn) = (chance.between(0, 7) as u32, wrong_number(chance, 16));
         let turn = chance.one_of(&[turn, turn, turn, no_turn]);
         let length = chance.one_of(&wrong);
         list.push((turn, chance.one_of(&[width * height, width * height, width * height, length])));

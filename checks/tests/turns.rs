@@ -6,8 +6,7 @@ use checks::buffers::{assert_same, Buffer};
 use checks::chance::Chance;
 use checks::mosaics::longer_lengths;
 use checks::refusals::{
-    answer_no, answered, refusals, wrong_lengths, FrameCall, LARGEST, NO_TURN_OR_LAYOUT, SHAPES,
-    TRIES_IN_THE_LARGEST,
+    above, answer_no, answered, refusals, wrong_lengths, FrameCall, LARGEST, SHAPES, TRIES_IN_THE_LARGEST,
 };
 use checks::turns::{after_list, then_another, turn_samples, turned_shape, Frame};
 use library::{Shape, Turned};
@@ -206,7 +205,7 @@ fn compared_then_another(turn: u32, next: u32) -> Result<u32, u32> {
 
 /// All turns and all layouts, and many numbers that are neither: those of eight bits, and of up to 32.
 fn any_number() -> impl Iterator<Item = u32> {
-    (0..=263).chain(NO_TURN_OR_LAYOUT)
+    (0..=255).chain(above(7))
 }
 
 /// All pairs of these.
