@@ -2,13 +2,12 @@
 use mathlib.Core.Path.{_≡_, refl, sym, ap, _∙_}
 use mathlib.Core.Bool.{Bool, true, false, cond}
 use mathlib.Core.List.{List, [], _∷_, _++_}
-use Prim.Native.Nat.{ℕ, zero, suc, _*_, _<_, min}
+use Prim.Native.Nat.{ℕ, _*_, min}
 use native.Mathlib.Omega.{arith}
 use lib.Dec.{leb, eqb}
 use lib.ListN.{length}
-use borrow.Author.Tests.{le-leb, lt-leb, leb-true, leb-false}
 use Rattle.questions.specs.Questions.{Question, question, ask, size-questions}
-use Rattle.questions.specs.Answers.{Answered, Numbered, if-accepted}
+use Rattle.questions.specs.Answers.{Answered, Numbered}
 use Rattle.questions.proofs.Asking.{all-yes}
 use Rattle.questions.proofs.Answering.{left-by}
 use Rattle.packet.specs.Packet.{distance, fields-of, repeats}
@@ -31,6 +30,7 @@ use Rattle.turns.specs.declared.TurnedLayout.{TurnedLayout}
 use Rattle.turns.specs.declared.TurnedLayout.the-variants as turned-layout
 use Rattle.turns.specs.declared.TurnedFrame.{TurnedFrame}
 use Rattle.turns.specs.declared.TurnedFrame.the-variants as turned-frame
+use Rattle.demosaic_c.proofs.Cuts.{cut-asked, cut-kept, left-as, numbered-as}
 use Rattle.demosaic_c.specs.Pointers.{shape, places-of, FieldsLeaves, LengthLeaves, RepeatLeaves, SingleLeaves, ShapeLeaves, TurnedShapeLeaves}
 
 -- ---- packets
@@ -82,43 +82,18 @@ repeat-returned s t before e =
     kept (repeat.Refused n) h = refl
 
 -- ---- turns
--- A turn or a layout n reaches the engine as a byte b: the question whether it is at most k, below 255, is answered alike.
-byte-asked : (k n : ℕ) {b : ℕ} → b ≡ min n 255 → k < 255 → leb b k ≡ leb n k
-byte-asked k n {b} e h = go (leb n k) refl
-  where
-    go : (x : Bool) → leb n k ≡ x → leb b k ≡ leb n k
-    go true p = let l = leb-true n k p in le-leb b k (omega arith) ∙ sym p
-    go false p = let l = leb-false n k p in lt-leb b k (omega arith) ∙ sym p
-
--- and where that is a yes, b is n
-byte-kept : (k n : ℕ) {b : ℕ} → b ≡ min n 255 → k < 255 → leb n k ≡ true → b ≡ n
-byte-kept k n e h p = let l = leb-true n k p in omega arith
-
--- what the engine left, by questions ps on bytes, is what is left by the same questions qs on C's numbers
-module _ {A : Type 0} {ps qs : List Question} (new other old : A) (p : ps ≡ qs) (same : ask qs ≡ 0 → new ≡ other) where
-  left-as : if-accepted ps new old ≡ if-accepted qs other old
-  unfolding if-accepted
-  left-as = ap (λ (q : List Question). if-accepted q new old) p ∙ go (ask qs) same
-    where
-      go : (n : ℕ) → (n ≡ 0 → new ≡ other) → _≡_ {A = A} (elim n [ zero ↦ new | suc k ↦ old ]) (elim n [ zero ↦ other | suc k ↦ old ])
-      go zero same = same refl
-      go (suc n) same = refl
-
-  numbered-as : (after : A) (r : ℕ) → Numbered ps (after ≡ if-accepted ps new old) r → Numbered qs (after ≡ if-accepted qs other old) r
-  numbered-as after r e = record { number = e .number ∙ ap ask p; leaves = e .leaves ∙ left-as }
-
 abbrev pub single-or : ℕ → Composed → ℕ
 single-or before (composed.Single t) = t .number
 single-or before (composed.Refused n) = before
 
 module _ (turn next : ℕ) {t n : ℕ} (pt : t ≡ min turn 255) (pn : n ≡ min next 255) where
   then-asked : then-questions t n ≡ then-questions turn next
-  then-asked = λ i. question 16 (byte-asked 7 turn pt (omega arith) i) ∷ question 16 (byte-asked 7 next pn (omega arith) i) ∷ []
+  then-asked = λ i. question 16 (cut-asked 255 7 turn pt (omega arith) i) ∷ question 16 (cut-asked 255 7 next pn (omega arith) i) ∷ []
 
   then-kept : ask (then-questions turn next) ≡ 0 → then-another t n ≡ then-another turn next
   then-kept z =
       let y = all-yes (then-questions turn next) tt 0 (sym z) refl in
-      λ i. then-another (byte-kept 7 turn pt (omega arith) (y .0) i) (byte-kept 7 next pn (omega arith) (y .1 .0) i)
+      λ i. then-another (cut-kept 255 7 turn pt (omega arith) (y .0) i) (cut-kept 255 7 next pn (omega arith) (y .1 .0) i)
 
   pub single-returned : (before : ℕ) {r : Composed} → Answered number-of-composed (then-questions t n) (composed.Single (record { number = then-another t n })) r → (a : Composed) → r ≡ a
       → Numbered (then-questions turn next) (SingleLeaves turn next before (single-or before a)) (number-of-composed a)
@@ -141,13 +116,13 @@ frame-shape-or before (turned-frame.Refused n) = before
 
 module _ (turn width height layout : ℕ) {t l : ℕ} (pt : t ≡ min turn 255) (pl : l ≡ min layout 255) where
   shape-asked : shape-turn-questions t width height l ≡ shape-turn-questions turn width height layout
-  shape-asked = λ i. question 16 (byte-asked 7 turn pt (omega arith) i) ∷ size-questions 2 width height ++ (question 3 (byte-asked 3 layout pl (omega arith) i) ∷ [])
+  shape-asked = λ i. question 16 (cut-asked 255 7 turn pt (omega arith) i) ∷ size-questions 2 width height ++ (question 3 (cut-asked 255 3 layout pl (omega arith) i) ∷ [])
 
   same-turn : leb turn 7 ≡ true → t ≡ turn
-  same-turn = byte-kept 7 turn pt (omega arith)
+  same-turn = cut-kept 255 7 turn pt (omega arith)
 
   same-layout : leb layout 3 ≡ true → l ≡ layout
-  same-layout = byte-kept 3 layout pl (omega arith)
+  same-layout = cut-kept 255 3 layout pl (omega arith)
 
   shape-kept : ask (shape-turn-questions turn width height layout) ≡ 0 → shape-turned t width height l ≡ shape-turned turn width height layout
   shape-kept z =

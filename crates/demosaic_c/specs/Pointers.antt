@@ -4,6 +4,7 @@ use mathlib.Core.Bool.{cond}
 use mathlib.Core.List.{List}
 use Prim.Native.Nat.{ℕ}
 use Rattle.questions.specs.Answers.{if-accepted}
+use Rattle.questions.specs.declared.Settings.{Settings}
 use Rattle.packet.specs.Packet.{distance, fields-of, repeats}
 use Rattle.packet.specs.Calls.{read-questions, write-questions, repeat-questions}
 use Rattle.packet.specs.declared.Fields.{Fields}
@@ -14,8 +15,12 @@ use Rattle.turns.specs.declared.Extent.{Extent}
 use Rattle.turns.specs.declared.Extent.the-variants as extent
 
 -- ---- packets
-abbrev pub fields : ℕ → ℕ → ℕ → ℕ → ℕ → Fields
-fields width height layout rounds threshold = record { width = width; height = height; layout = layout; rounds = rounds; threshold = threshold }
+-- settings and fields by C's numbers
+abbrev pub settings : ℕ → ℕ → Settings
+settings rounds threshold = record { rounds = rounds; threshold = threshold }
+
+abbrev pub fields : ℕ → ℕ → ℕ → Settings → Fields
+fields width height layout s = record { width = width; height = height; layout = layout; settings = s }
 
 -- the five numbers of a packet's frame, which held `before`
 abbrev pub FieldsLeaves : List ℕ → Fields → Fields → Type 0

@@ -1,9 +1,9 @@
 // What C sees of the engine: thin calls, declared in include/demosaic.h. A slice is a pointer and a length there.
-use finishing::Tally;
 use packet::Fields;
 use packet::ReadPacket;
 use packet::Repeat;
 use packet::WrittenPacket;
+use questions::Settings;
 use turns::Composed;
 use turns::Extent;
 use turns::Turn;
@@ -12,7 +12,8 @@ use turns::TurnedLayout;
 ghost use mathlib.Core.Path.{_≡_};
 ghost use Prim.Native.Nat.{min};
 ghost use lib.ListN.{length};
-ghost use Rattle.questions.specs.Questions.{ask, ceiling};
+ghost use Rattle.questions.specs.Settings.{ceiling};
+ghost use Rattle.questions.specs.Questions.{ask};
 ghost use Rattle.questions.specs.Answers.{Numbered};
 ghost use Rattle.packet.specs.Calls.{read-questions, mosaic-questions, write-questions, repeat-questions, MosaicLeaves, WriteLeaves};
 ghost use Rattle.filters.specs.Bank.{brought-back};
@@ -22,10 +23,11 @@ ghost use Rattle.turns.specs.Turning.{then-questions, shape-turn-questions, fra
 ghost use Rattle.bank.specs.Calls.{bands, lengths, split-questions, join-questions, SplitLeaves, JoinLeaves};
 ghost use Rattle.estimate.specs.Calls.{estimate-questions, EstimateLeaves};
 ghost use Rattle.update.specs.Calls.{update-questions, UpdateLeaves};
+ghost use Rattle.work_buffer.specs.Lent.{lent};
 ghost use Rattle.rounds.specs.Calls.{rounds-questions, RoundsLeaves};
-ghost use Rattle.finishing.specs.Tally.{finished-after, refused-after, rounds-after, zero-tally};
-ghost use Rattle.finishing.specs.Calls.{finish-call, FinishNumber};
-ghost use Rattle.demosaic_c.specs.Pointers.{fields, shape, places-of, FieldsLeaves, LengthLeaves, RepeatLeaves, SingleLeaves, ShapeLeaves, TurnedShapeLeaves};
+ghost use Rattle.tally.specs.Tally.{finished-after, refused-after, rounds-after};
+ghost use Rattle.finishing.specs.Calls.{FinishNumber};
+ghost use Rattle.demosaic_c.specs.Pointers.{settings, fields, shape, places-of, FieldsLeaves, LengthLeaves, RepeatLeaves, SingleLeaves, ShapeLeaves, TurnedShapeLeaves};
 
 // A packet's refusal number by the reader's questions, 0 for sound.
 #[no_mangle]
@@ -41,11 +43,11 @@ pub extern "C" fn demosaic_packet_fields(
     store: &[u8],
     width: &mut usize,
     height: &mut usize,
-    layout: &mut u8,
-    rounds: &mut u8,
-    threshold: &mut u16,
+    layout: &mut u32,
+    rounds: &mut u32,
+    threshold: &mut u32,
 ) -> u32
-    ensures { λ r. ⌜ Numbered (read-questions (now (store .entry))) (FieldsLeaves (now (store .entry)) (fields (now (width .entry)) (now (height .entry)) (now (layout .entry)) (now (rounds .entry)) (now (threshold .entry))) (fields (now (width .exit)) (now (height .exit)) (now (layout .exit)) (now (rounds .exit)) (now (threshold .exit)))) r ⌝ }
+    ensures { λ r. ⌜ Numbered (read-questions (now (store .entry))) (FieldsLeaves (now (store .entry)) (fields (now (width .entry)) (now (height .entry)) (now (layout .entry)) (settings (now (rounds .entry)) (now (threshold .entry)))) (fields (now (width .exit)) (now (height .exit)) (now (layout .exit)) (settings (now (rounds .exit)) (now (threshold .exit))))) r ⌝ }
 {
     let answer = packet::read_packet(store);
     match answer {
@@ -53,9 +55,9 @@ pub extern "C" fn demosaic_packet_fields(
         ReadPacket::Sound(f) => {
             *width = f.width;
             *height = f.height;
-            *layout = f.layout;
-            *rounds = f.rounds;
-            *threshold = f.threshold;
+            *layout = f.layout as u32;
+            *rounds = f.settings.rounds as u32;
+            *threshold = f.settings.threshold as u32;
             0
         }
     }
@@ -73,26 +75,52 @@ pub extern "C" fn demosaic_packet_samples(store: &[u8], samples: &mut [u16]) -> 
     }
 }
 
+// A turn, a layout or rounds of C as the byte that the engine takes. What is above 255 becomes 255, which the same question refuses.
+fn byte(n: u32) -> u8
+    ensures { λ r. ⌜ r ≡ min n 255 ⌝ }
+{
+    if 255 < n {
+        return 255;
+    }
+    n as u8
+}
+
+// Rounds and threshold of C as the engine's settings. A threshold above 65,535 becomes 65,535, which the same question refuses.
+fn cut_settings(rounds: u32, threshold: u32) -> Settings
+    ensures { λ r. ⌜ r ≡ settings (min rounds 255) (min threshold 65535) ⌝ }
+{
+    let rounds = byte(rounds);
+    if 65535 < threshold {
+        return Settings {
+            rounds,
+            threshold: 65535,
+        };
+    }
+    Settings {
+        rounds,
+        threshold: threshold as u16,
+    }
+}
+
 // A packet into the first bytes of `out`, and how many into `written`; 0 or the refusal's number.
 #[no_mangle]
 pub extern "C" fn demosaic_packet_write(
     width: usize,
     height: usize,
-    layout: u8,
-    rounds: u8,
-    threshold: u16,
+    layout: u32,
+    rounds: u32,
+    threshold: u32,
     samples: &[u16],
     out: &mut [u8],
     written: &mut usize,
 ) -> u32
-    ensures { λ r. ⌜ Numbered (write-questions (fields width height layout rounds threshold) (now (samples .entry)) (length (now (out .entry)))) (WriteLeaves (fields width height layout rounds threshold) (now (samples .entry)) (now (out .entry)) (now (out .exit)) × LengthLeaves (fields width height layout rounds threshold) (now (samples .entry)) (length (now (out .entry))) (now (written .entry)) (now (written .exit))) r ⌝ }
+    ensures { λ r. ⌜ Numbered (write-questions (fields width height layout (settings rounds threshold)) (now (samples .entry)) (length (now (out .entry)))) (WriteLeaves (fields width height layout (settings rounds threshold)) (now (samples .entry)) (now (out .entry)) (now (out .exit)) × LengthLeaves (fields width height layout (settings rounds threshold)) (now (samples .entry)) (length (now (out .entry))) (now (written .entry)) (now (written .exit))) r ⌝ }
 {
     let f = Fields {
         width,
         height,
-        layout,
-        rounds,
-        threshold,
+        layout: byte(layout),
+        settings: cut_settings(rounds, threshold),
     };
     let answer = packet::write_packet(f, samples, out);
     match answer {
@@ -121,16 +149,6 @@ pub extern "C" fn demosaic_packet_repeats(a: &[u8], b: &[u8], same: &mut u8) -> 
             0
         }
     }
-}
-
-// A turn or a layout of C as the byte that the engine takes. What is above 255 becomes 255, which the same question refuses.
-fn byte(n: u32) -> u8
-    ensures { λ r. ⌜ r ≡ min n 255 ⌝ }
-{
-    if 255 < n {
-        return 255;
-    }
-    n as u8
 }
 
 // The turned samples into `out`, and the turned width, height and layout into three numbers; 0 or the refusal's number.
@@ -266,15 +284,16 @@ pub extern "C" fn demosaic_bring_back(sum: i32) -> u16
 pub extern "C" fn demosaic_estimate(
     width: usize,
     height: usize,
-    layout: u8,
+    layout: u32,
     mosaic: &[u16],
     red: &mut [u16],
     green: &mut [u16],
     blue: &mut [u16],
 ) -> u32
-    ensures { λ r. ⌜ Numbered (estimate-questions (frame width height layout (now (mosaic .entry))) (frames.lengths (planes (now (red .entry)) (now (green .entry)) (now (blue .entry))))) (EstimateLeaves (frame width height layout (now (mosaic .entry))) (planes (now (red .entry)) (now (green .entry)) (now (blue .entry))) (planes (now (red .exit)) (now (green .exit)) (now (blue .exit)))) r ⌝ }
+    ensures { λ r. ⌜ Numbered (estimate-questions ceiling (frame width height layout (now (mosaic .entry))) (frames.lengths (planes (now (red .entry)) (now (green .entry)) (now (blue .entry))))) (EstimateLeaves ceiling (frame width height layout (now (mosaic .entry))) (planes (now (red .entry)) (now (green .entry)) (now (blue .entry))) (planes (now (red .exit)) (now (green .exit)) (now (blue .exit)))) r ⌝ }
 {
-    estimate::estimate(width, height, layout, mosaic, red, green, blue).number()
+    let given = byte(layout);
+    estimate::estimate(width, height, given, mosaic, red, green, blue).number()
 }
 
 // Updates a green estimate in place; 0 or the refusal's number.
@@ -282,14 +301,15 @@ pub extern "C" fn demosaic_estimate(
 pub extern "C" fn demosaic_update(
     width: usize,
     height: usize,
-    layout: u8,
+    layout: u32,
     mosaic: &[u16],
     green: &mut [u16],
     work: &mut [i32],
 ) -> u32
-    ensures { λ r. ⌜ Numbered (update-questions (frame width height layout (now (mosaic .entry))) (now (green .entry)) (length (now (work .entry)))) (UpdateLeaves (frame width height layout (now (mosaic .entry))) (now (green .entry)) (now (work .entry)) (now (green .exit)) (now (work .exit))) r ⌝ }
+    ensures { λ r. ⌜ Numbered (update-questions ceiling (frame width height layout (now (mosaic .entry))) (now (green .entry)) (length (now (work .entry)))) (UpdateLeaves ceiling (frame width height layout (now (mosaic .entry))) (now (green .entry)) (now (work .entry)) (now (green .exit)) (now (work .exit))) r ⌝ }
 {
-    update::update(width, height, layout, mosaic, green, work).number()
+    let given = byte(layout);
+    update::update(width, height, given, mosaic, green, work).number()
 }
 
 // Runs the rounds on three given planes, red and blue in place; 0 or the refusal's number.
@@ -297,23 +317,24 @@ pub extern "C" fn demosaic_update(
 pub extern "C" fn demosaic_rounds(
     width: usize,
     height: usize,
-    layout: u8,
-    rounds: u8,
-    threshold: u16,
+    layout: u32,
+    rounds: u32,
+    threshold: u32,
     mosaic: &[u16],
     red: &mut [u16],
     green: &[u16],
     blue: &mut [u16],
     work: &mut [i32],
 ) -> u32
-    ensures { λ r. ⌜ Numbered (rounds-questions (frame width height layout (now (mosaic .entry))) rounds threshold (planes (now (red .entry)) (now (green .entry)) (now (blue .entry))) (length (now (work .entry)))) (RoundsLeaves (frame width height layout (now (mosaic .entry))) rounds threshold (planes (now (red .entry)) (now (green .entry)) (now (blue .entry))) (now (work .entry)) (planes (now (red .exit)) (now (green .entry)) (now (blue .exit))) (now (work .exit))) r ⌝ }
+    ensures { λ r. ⌜ Numbered (rounds-questions (frame width height layout (now (mosaic .entry))) (settings rounds threshold) (lent (now (red .entry)) (now (green .entry)) (now (blue .entry)) (now (work .entry)))) (RoundsLeaves (frame width height layout (now (mosaic .entry))) (settings rounds threshold) (lent (now (red .entry)) (now (green .entry)) (now (blue .entry)) (now (work .entry))) (lent (now (red .exit)) (now (green .entry)) (now (blue .exit)) (now (work .exit)))) r ⌝ }
 {
+    let given = byte(layout);
+    let settings = cut_settings(rounds, threshold);
     rounds::rounds(
         width,
         height,
-        layout,
-        rounds,
-        threshold,
+        given,
+        settings,
         mosaic,
         red,
         green,
@@ -327,29 +348,29 @@ pub extern "C" fn demosaic_rounds(
 pub extern "C" fn demosaic_finish(
     width: usize,
     height: usize,
-    layout: u8,
-    rounds: u8,
-    threshold: u16,
+    layout: u32,
+    rounds: u32,
+    threshold: u32,
     mosaic: &[u16],
     red: &mut [u16],
     green: &mut [u16],
     blue: &mut [u16],
     work: &mut [i32],
 ) -> u32
-    ensures { λ r. ⌜ FinishNumber (finish-call (frame width height layout (now (mosaic .entry))) rounds threshold zero-tally (planes (now (red .entry)) (now (green .entry)) (now (blue .entry))) (now (work .entry))) r (planes (now (red .exit)) (now (green .exit)) (now (blue .exit))) (now (work .exit)) ⌝ }
+    ensures { λ r. ⌜ FinishNumber (frame width height layout (now (mosaic .entry))) (settings rounds threshold) (lent (now (red .entry)) (now (green .entry)) (now (blue .entry)) (now (work .entry))) r (lent (now (red .exit)) (now (green .exit)) (now (blue .exit)) (now (work .exit))) ⌝ }
 {
-    let answer = finishing::finish(
+    let given = byte(layout);
+    let settings = cut_settings(rounds, threshold);
+    let answer = finishing::finish_frame(
         width,
         height,
-        layout,
-        rounds,
-        threshold,
+        given,
+        settings,
         mosaic,
         red,
         green,
         blue,
         work,
-        Tally::zero(),
     );
     answer.number()
 }
@@ -359,19 +380,19 @@ pub extern "C" fn demosaic_finish(
 pub extern "C" fn demosaic_tally_finished(before: u32, number: u32) -> u32
     ensures { λ r. ⌜ r ≡ finished-after before number ⌝ }
 {
-    finishing::finished_after(before, number)
+    tally::finished_after(before, number)
 }
 
 #[no_mangle]
 pub extern "C" fn demosaic_tally_refused(before: u32, number: u32) -> u32
     ensures { λ r. ⌜ r ≡ refused-after before number ⌝ }
 {
-    finishing::refused_after(before, number)
+    tally::refused_after(before, number)
 }
 
 #[no_mangle]
-pub extern "C" fn demosaic_tally_rounds(before: u32, number: u32, rounds: u8) -> u32
+pub extern "C" fn demosaic_tally_rounds(before: u32, number: u32, rounds: u32) -> u32
     ensures { λ r. ⌜ r ≡ rounds-after before number rounds ⌝ }
 {
-    finishing::rounds_after(before, number, rounds)
+    tally::rounds_after(before, number, rounds)
 }

@@ -3,7 +3,7 @@
 use mathlib.Core.Path.{_∙_, ap}
 use mir.Facts.{toZ-ofZ as back}
 use borrow.Author.Needs.{needs}
-use Rattle.questions.specs.Questions.{ceiling}
+use Rattle.questions.specs.Settings.{ceiling}
 use Rattle.filters.specs.Bank.{brought-back}
 use Rattle.demosaic_c.proofs.demosaic_bring_back.Statement.{statement}
 use Rattle.demosaic_c.proofs.demosaic_bring_back.Tie as tie

@@ -1,15 +1,18 @@
--- `demosaic_c::demosaic_finish` meets its contract: the finishing call's, whose tally is not kept.
+-- `demosaic_c::demosaic_finish` meets its contract: the finishing call's, without a tally.
 -- Assumes nothing.
-use mathlib.Core.Path.{_∙_}
 use borrow.Author.Needs.{needs}
+use Rattle.demosaic_c.proofs.Wide.{finish-returned}
 use Rattle.demosaic_c.proofs.demosaic_finish.Statement.{statement}
 use Rattle.demosaic_c.proofs.demosaic_finish.Tie as tie
 
-zero-requires : tie.Need-zero-requires
-zero-requires c κs = search needs
+byte-requires : tie.Need-byte-requires
+byte-requires c κs = search needs
 
-finish-requires : tie.Need-finish-requires
-finish-requires c κs = search needs
+cut-settings-requires : tie.Need-cut-settings-requires
+cut-settings-requires c κs = search needs
+
+finish-frame-requires : tie.Need-finish-frame-requires
+finish-frame-requires c κs = search needs
 
 number-requires : tie.Need-number-requires
 number-requires c κs = search needs
@@ -28,18 +31,17 @@ same-length-4 c = search needs
 
 returns : tie.Need-returns
 returns c =
-    let f = c .before .before .before .before .before .before .before .before .finish .ensures in
-    record {
-      number = c .number .ensures ∙ f .answer .number;
-      leaves = record { three-planes = f .leaves .three-planes; work-buffer = f .leaves .work-buffer };
-    }
+    let e = c .before .before .before .before .before .before .before .before in
+    let cut = e .before .before .before .before .before in
+    finish-returned _ _ _ _ (cut .before .byte .ensures) _ _ (cut .cut-settings .ensures) _ (e .finish-frame .ensures) (c .number .ensures)
 
 pub demosaic-finish-spec : {M : Type 1} → statement M
 demosaic-finish-spec =
     tie.close
     (tie.spec
-    zero-requires
-    finish-requires
+    byte-requires
+    cut-settings-requires
+    finish-frame-requires
     number-requires
     same-length
     same-length-2

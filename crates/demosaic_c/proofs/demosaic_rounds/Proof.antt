@@ -1,9 +1,15 @@
 -- `demosaic_c::demosaic_rounds` meets its contract: the rounds call's.
 -- Assumes nothing.
-use mathlib.Core.Path.{_∙_}
 use borrow.Author.Needs.{needs}
+use Rattle.demosaic_c.proofs.Wide.{rounds-returned}
 use Rattle.demosaic_c.proofs.demosaic_rounds.Statement.{statement}
 use Rattle.demosaic_c.proofs.demosaic_rounds.Tie as tie
+
+byte-requires : tie.Need-byte-requires
+byte-requires c κs = search needs
+
+cut-settings-requires : tie.Need-cut-settings-requires
+cut-settings-requires c κs = search needs
 
 rounds-requires : tie.Need-rounds-requires
 rounds-requires c κs = search needs
@@ -21,9 +27,20 @@ same-length-3 : tie.Need-same-length-3
 same-length-3 c = search needs
 
 returns : tie.Need-returns
-returns c = let e = c .before .before .before .before .before .before .rounds .ensures in record { number = c .number .ensures ∙ e .answer .number; leaves = e .leaves }
+returns c =
+    let e = c .before .before .before .before .before .before in
+    let cut = e .before .before .before .before in
+    rounds-returned _ _ _ _ (cut .before .byte .ensures) _ _ (cut .cut-settings .ensures) _ (e .rounds .ensures) (c .number .ensures)
 
 pub demosaic-rounds-spec : {M : Type 1} → statement M
 demosaic-rounds-spec =
     tie.close
-    (tie.spec rounds-requires number-requires same-length same-length-2 same-length-3 returns)
+    (tie.spec
+    byte-requires
+    cut-settings-requires
+    rounds-requires
+    number-requires
+    same-length
+    same-length-2
+    same-length-3
+    returns)
