@@ -4,8 +4,7 @@ ghost use Prim.Native.Nat.{_+_, _*_, _≤_, _<_};
 ghost use lib.IntN.{natAbs};
 ghost use lib.ListN.{length};
 ghost use Rattle.integers.specs.Lists.{overwrite};
-ghost use Rattle.questions.specs.Settings.{ceiling};
-ghost use Rattle.questions.specs.Questions.{ask};
+ghost use Rattle.questions.specs.Questions.{ceiling, ask};
 ghost use Rattle.turns.specs.Frames.{frame, listing, plane-of};
 ghost use Rattle.lines.specs.Lines.{value};
 ghost use Rattle.work_buffer.specs.Places.{place, sample, put, Seconds, SecondRows, Narrow, Workable};
@@ -113,7 +112,7 @@ fn update_refusal(
     green: &[u16],
     room: usize,
 ) -> u32
-    ensures { λ r. ⌜ r ≡ ask (update-questions ceiling (frame width height layout (now (mosaic .entry))) (now (green .entry)) room) ⌝ }
+    ensures { λ r. ⌜ r ≡ ask (update-questions (frame width height layout (now (mosaic .entry))) (now (green .entry)) room) ⌝ }
 {
     let number = questions::shape(width, height, layout);
     if number != 0 {
@@ -169,7 +168,7 @@ pub fn update(
     green: &mut [u16],
     work: &mut [i32],
 ) -> UpdateAnswer
-    ensures { λ r. ⌜ UpdateResult ceiling (frame width height layout (now (mosaic .entry))) (now (green .entry)) (now (work .entry)) r (now (green .exit)) (now (work .exit)) ⌝ }
+    ensures { λ r. ⌜ UpdateResult (frame width height layout (now (mosaic .entry))) (now (green .entry)) (now (work .entry)) r (now (green .exit)) (now (work .exit)) ⌝ }
 {
     let refusal = update_refusal(width, height, layout, mosaic, green, work.len());
     if refusal != 0 {

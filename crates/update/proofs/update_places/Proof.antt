@@ -6,7 +6,7 @@ use native.Mathlib.Omega.{arith}
 use lib.ListN.{length}
 use denote.Ref.{now}
 use borrow.Author.Needs.{needs}
-use Rattle.questions.specs.Settings.{ceiling}
+use Rattle.questions.specs.Questions.{ceiling}
 use Rattle.work_buffer.specs.Places.{places}
 use Rattle.work_buffer.proofs.Places.{few-places, small-rows}
 use Rattle.update.proofs.Places.{projected-narrow, projectable, mixed-laid, green-laid}

@@ -7,7 +7,6 @@ use native.Mathlib.Omega.{arith}
 use denote.Ref.{now}
 use borrow.Author.Needs.{needs}
 use Rattle.integers.proofs.Tests.{tested}
-use Rattle.questions.specs.Settings.{ceiling}
 use Rattle.questions.specs.Questions.{ask, shape-questions}
 use Rattle.questions.proofs.Asking.{asking, ask-first, ask-later, AllYes, all-yes, shape-is}
 use Rattle.turns.specs.Frames.{frame}
@@ -38,7 +37,7 @@ mul-count c =
 -- 6, 8, 9 and 10
 rest : (c : tie.Else1) (m : ℕ)
     → let a = c .before .before .before .before .args in
-    m ≡ ask (updating-questions ceiling (a .width * a .height) (now (a .mosaic)) (now (a .green)) (a .room)) → m ≡ ask (update-questions ceiling (frame (a .width) (a .height) (a .layout) (now (a .mosaic))) (now (a .green)) (a .room))
+    m ≡ ask (updating-questions (a .width * a .height) (now (a .mosaic)) (now (a .green)) (a .room)) → m ≡ ask (update-questions (frame (a .width) (a .height) (a .layout) (now (a .mosaic))) (now (a .green)) (a .room))
 rest c m r = let a = c .before .before .before .before .args in ask-later (shape-questions (a .width) (a .height) (a .layout)) _ m (known c) r
 
 returns-2 : tie.Need-returns-2
