@@ -75,4 +75,4 @@ joined-plus parts minus plus k = crossed minus plus 0 1 2 3 4 k +ℤ crossed par
 
 -- ---- 1,024 times a value, less a joined sum, brought back
 unfoldable pub settled : ℤ → ℤ → ℤ → ℤ → ℤ
-settled low high x sum = rescaled low high (pos 1024 *ℤ x -ℤ sum)
+settled low high x sum = rescaled 1024 low high (pos 1024 *ℤ x -ℤ sum)

@@ -79,14 +79,14 @@ join d w h bands r c =
     +ℤ filtered low-join high-join d w h (λ i j. bands i j .band3) r c
     +ℤ filtered high-join high-join d w h (λ i j. bands i j .band4) r c
 
--- ---- bringing a sum back: (s + 512) whole-divided by 1,024, then clipped
--- to low..high
-abbrev pub rescaled : ℤ → ℤ → ℤ → ℤ
-rescaled low high s = clamp low high (rounded 1024 s)
+-- ---- bringing a sum back: divided by d and rounded, then clipped
+-- to least..most
+abbrev pub rescaled : ℕ → ℤ → ℤ → ℤ → ℤ
+rescaled d least most s = clamp least most (rounded d s)
 
--- to 0..top, as a sample
+-- (s + 512) whole-divided by 1,024, to 0..top, as a sample
 unfoldable pub brought-back : ℕ → ℤ → ℕ
-brought-back top s = natAbs (rescaled (pos 0) (pos top) s)
+brought-back top s = natAbs (rescaled 1024 (pos 0) (pos top) s)
 
 -- ---- what the filters in code ask of a value: no partial sum of any of the four then leaves 32 bits
 abbrev pub Small : ℤ → Type 0

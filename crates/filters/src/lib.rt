@@ -58,31 +58,31 @@ pub fn rounded_quotient(sum: i32) -> i32
     }
 }
 
-fn clipped(z: i32, low: i32, high: i32) -> i32
-    ensures { λ r. ⌜ r ≡ clamp low high z ⌝ }
+fn clipped(z: i32, least: i32, most: i32) -> i32
+    ensures { λ r. ⌜ r ≡ clamp least most z ⌝ }
 {
-    if z < low {
-        return low;
+    if z < least {
+        return least;
     }
-    if high < z {
-        return high;
+    if most < z {
+        return most;
     }
     z
 }
 
-// A sum brought back to low..high: the rounded quotient, clipped.
-pub fn rescale(sum: i32, low: i32, high: i32) -> i32
-    ensures { λ r. ⌜ r ≡ rescaled low high sum ⌝ }
+// A sum brought back to least..most: the rounded quotient, clipped.
+pub fn rescale(sum: i32, least: i32, most: i32) -> i32
+    ensures { λ r. ⌜ r ≡ rescaled 1024 least most sum ⌝ }
 {
-    clipped(rounded_quotient(sum), low, high)
+    clipped(rounded_quotient(sum), least, most)
 }
 
 // The same, of a sum to which 512 can be added: it does not go by the sum's sign, which a loop over vectors would do both ways.
-pub fn rescale_bounded(sum: i32, low: i32, high: i32) -> i32
+pub fn rescale_bounded(sum: i32, least: i32, most: i32) -> i32
     requires { ⌜ Roundable sum ⌝ }
-    ensures { λ r. ⌜ r ≡ rescaled low high sum ⌝ }
+    ensures { λ r. ⌜ r ≡ rescaled 1024 least most sum ⌝ }
 {
-    clipped(whole_divided(sum + 512), low, high)
+    clipped(whole_divided(sum + 512), least, most)
 }
 
 // A sum brought back to a sample, 0..4,095.

@@ -29,7 +29,7 @@ limit-of threshold = pos (16 * threshold)
 
 -- what a working plane keeps of a joined sum between rounds: it is brought back
 unfoldable pub kept : ℕ → ℤ → ℤ
-kept top s = rescaled (pos 0) (pos top) s
+kept top s = rescaled 1024 (pos 0) (pos top) s
 
 -- the observed samples put in, at the colour's places
 unfoldable pub put-observed : Round → (ℕ → ℕ → ℤ) → ℕ → ℕ → ℤ

@@ -20,7 +20,7 @@ returns c =
     let q = c .before in
     let s = q .before in
     let quotient = read-is w32 (q .rounded-quotient .ok) (q .rounded-quotient .ensures) ∙ ap (rounded 1024) (back (s .fits .sum)) in
-    read-is w32 (c .clipped .ok) (c .clipped .ensures) ∙ (λ i. clamp (back (s .fits .low) i) (back (s .fits .high) i) (quotient i))
+    read-is w32 (c .clipped .ok) (c .clipped .ensures) ∙ (λ i. clamp (back (s .fits .least) i) (back (s .fits .most) i) (quotient i))
 
 pub rescale-spec : {M : Type 1} → statement M
 rescale-spec = tie.close (tie.spec rounded-quotient-requires clipped-requires returns)

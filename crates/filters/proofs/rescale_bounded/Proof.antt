@@ -27,7 +27,7 @@ returns c =
     let quotient =
     read-is w32 (q .whole-divided .ok) (q .whole-divided .ensures)
     ∙ ap (λ (z : ℤ). whole-divided z 1024) (back (add-whole-divided s) ∙ ap (λ (z : ℤ). z +ℤ pos 512) (back (s .fits .sum))) in
-    read-is w32 (c .clipped .ok) (c .clipped .ensures) ∙ (λ i. clamp (back (s .fits .low) i) (back (s .fits .high) i) (quotient i))
+    read-is w32 (c .clipped .ok) (c .clipped .ensures) ∙ (λ i. clamp (back (s .fits .least) i) (back (s .fits .most) i) (quotient i))
 
 pub rescale-bounded-spec : {M : Type 1} → statement M
 rescale-bounded-spec = tie.close (tie.spec add-whole-divided whole-divided-requires clipped-requires returns)
