@@ -2,11 +2,11 @@
 use mathlib.Core.Path.{_≡_, refl, sym, _∙_, ap, subst}
 use mathlib.Core.Bool.{true, false}
 use mathlib.Core.List.{List, [], _∷_}
-use Prim.Native.Nat.{ℕ, zero, suc, _+_, _*_, _-_, _≤_, _<_}
+use Prim.Native.Nat.{ℕ, _+_, _*_, _≤_, _<_}
 use native.Mathlib.Nat.{zero-add}
 use native.Mathlib.Omega.{arith}
-use lib.Dec.{T, ltb→lt}
-use lib.IntN.{ℤ, pos, negsuc, negℤ, natAbs, _+ℤ_, _-ℤ_, +ℤ-idl, +ℤ-idr}
+use lib.Dec.{T}
+use lib.IntN.{ℤ, pos, negℤ, natAbs, _+ℤ_, _-ℤ_, +ℤ-idl, +ℤ-idr}
 use lib.ListN.{length}
 use lib.Signed.{ltZ, nonNeg}
 use mir.Syntax.{w32}
@@ -14,17 +14,17 @@ use mir.Val.{toZ, ofZ}
 use mir.Facts.{toZ-ofZ as back}
 use Rattle.integers.specs.Lists.{overwrite}
 use Rattle.integers.proofs.Lists.{overwrite-cong}
-use Rattle.integers.proofs.Tests.{true-is, never}
-use Rattle.integers.proofs.Clamping.{clamp-low, clamp-high, clamp-mid, clamp-cases}
-use Rattle.integers.proofs.Bounds.{abs-sub, abs-neg, minus-pos, fits-abs}
-use Rattle.integers.proofs.Linear.{linear, atom, x₀, x₁, x₂, x₃, neg, number, _⊕_, _⊖_}
+use Rattle.integers.proofs.Clamping.{clamp-low, clamp-high, clamp-mid}
+use Rattle.integers.proofs.Bounds.{fits-abs}
+use Rattle.integers.proofs.Linear.{linear, x₀, x₁, neg, number, _⊕_, _⊖_}
 use Rattle.border.specs.Border.{reflect}
-use Rattle.filters.specs.Bank.{Taps, weighted, tap, along, low-split, high-split, low-join, high-join}
-use Rattle.filters.proofs.Taps.{weighted-linear}
+use Rattle.filters.specs.Bank.{Taps, weighted, low-split, high-split, high-join}
 use Rattle.filters.proofs.Ranges.{gain, weighted-range}
 use Rattle.lines.specs.Lines.{value, Run, three, padded}
 use Rattle.lines.proofs.Lines.{run-wider, read-small, three-small, three-read, three-range, padded-near, three-along, three-runs, five-runs}
-use Rattle.details.specs.Details.{excess, Triple, outer, from-place, outer-part, crossed, Crossing, crossed-along}
+use Rattle.projection.specs.Fast.{excess, outer-part, crossed-along}
+use Rattle.projection.proofs.Parts.{excess-bound}
+use Rattle.details.specs.Details.{Triple, outer, from-place, crossed, Crossing}
 
 -- ---- what lies outside a limit, by the two tests
 opposite : (limit : ℤ) → pos 0 -ℤ limit ≡ negℤ limit
@@ -42,24 +42,6 @@ excess-above limit z t u = ap (λ x. z -ℤ x) (sym (clamp-high (negℤ limit) l
 pub excess-none : (limit z : ℤ) → ltZ z (pos 0 -ℤ limit) ≡ false → ltZ limit z ≡ false → pos 0 ≡ excess limit z
 unfolding excess
 excess-none limit z t u = linear (z ∷ []) (number (pos 0)) (x₀ ⊖ x₀) tt ∙ ap (λ x. z -ℤ x) (sym (clamp-mid (negℤ limit) limit z (ap (ltZ z) (sym (opposite limit)) ∙ t) u))
-
--- it is no farther from 0 than the whole
-pub excess-bound : (limit z : ℤ) → T (nonNeg limit) → natAbs (excess limit z) ≤ natAbs z
-unfolding excess
-excess-bound (negsuc m) z s = absurd s
-excess-bound (pos m) z s = clamp-cases (negℤ (pos m)) (pos m) z (λ x. natAbs (z -ℤ x) ≤ natAbs z) (below m z) (above z) (λ h k. omega (arith, ap natAbs (linear (z ∷ []) (x₀ ⊖ x₀) (number (pos 0)) tt)))
-  where
-    below : (m : ℕ) (z : ℤ) → ltZ z (negℤ (pos m)) ≡ true → natAbs (z -ℤ negℤ (pos m)) ≤ natAbs z
-    below zero z t = omega (arith, abs-sub z (pos 0))
-    below (suc m) (pos a) t = never (sym t)
-    below (suc m) (negsuc a) t =
-        let h : m < a = ltb→lt m a (true-is t) in
-        let e : natAbs (negsuc a -ℤ negsuc m) ≡ suc a - suc m = ap natAbs (linear (pos (suc a) ∷ pos (suc m) ∷ []) (neg x₀ ⊖ neg x₁) (neg (x₀ ⊖ x₁)) tt) ∙ abs-neg (pos (suc a) -ℤ pos (suc m)) ∙ ap natAbs (minus-pos (suc a) (suc m) (omega arith)) in
-        omega arith
-
-    above : (z : ℤ) → ltZ (pos m) z ≡ true → natAbs (z -ℤ pos m) ≤ natAbs z
-    above (pos a) t = let h : m < a = ltb→lt m a (true-is t) in omega (arith, ap natAbs (minus-pos a m (omega arith)))
-    above (negsuc a) t = never (sym t)
 
 -- ---- what the machine reads of a list
 abbrev read : List ℤ → ℕ → ℤ
@@ -145,31 +127,3 @@ module _ {n : ℕ} (some : 1 ≤ n) where
     where
       at : (l : List ℤ) {l' : List ℤ} → 2 + n + 2 ≤ length l → l' ≡ padded n 2 l → (s : ℕ) (j : ℤ) → s + k < 2 + n + 2 → pos k +ℤ (pos s -ℤ pos 2) ≡ j → value l' (s + k) ≡ value l (2 + reflect n j)
       at l fit e s j b q = ap (λ (z : List ℤ). value z (s + k)) e ∙ padded-near n 2 some l fit s k j b q
-
--- one line in both places is the filter along it
-pub crossed-same : (n : ℕ) (x : ℕ → ℤ) (i : ℕ) → crossed-along n x x i ≡ along high-join 1 n x i
-unfolding crossed-along along tap
-crossed-same n x i = refl
-
--- q − p and q + p in turn are p through the low join taps, and q through the high ones
-pub crossed-joins : (n : ℕ) (p q : ℕ → ℤ) (i : ℕ) → crossed-along n (λ k. q k -ℤ p k) (λ k. q k +ℤ p k) i ≡ along low-join 1 n p i +ℤ along high-join 1 n q i
-unfolding crossed-along along tap weighted low-join high-join
-crossed-joins n p q i =
-    linear (p a ∷ p b ∷ p c ∷ p d ∷ p e ∷ q a ∷ q b ∷ q c ∷ q d ∷ q e ∷ [])
-    (weighted-linear high-join (atom 5 ⊖ x₀) (atom 6 ⊕ x₁) (atom 7 ⊖ x₂) (atom 8 ⊕ x₃) (atom 9 ⊖ atom 4))
-    (weighted-linear low-join x₀ x₁ x₂ x₃ (atom 4) ⊕ weighted-linear high-join (atom 5) (atom 6) (atom 7) (atom 8) (atom 9)) tt
-  where
-    a : ℕ
-    a = reflect n (pos i -ℤ pos 2)
-
-    b : ℕ
-    b = reflect n (pos i -ℤ pos 1)
-
-    c : ℕ
-    c = reflect n (pos i)
-
-    d : ℕ
-    d = reflect n (pos i +ℤ pos 1)
-
-    e : ℕ
-    e = reflect n (pos i +ℤ pos 2)

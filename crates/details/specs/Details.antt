@@ -2,16 +2,11 @@
 -- parts are joined to. Assumes nothing.
 use mathlib.Core.List.{List}
 use Prim.Native.Nat.{ℕ, _+_, _*_}
-use lib.IntN.{ℤ, pos, negℤ, _+ℤ_, _-ℤ_, _*ℤ_}
+use lib.IntN.{ℤ, pos, _+ℤ_, _-ℤ_, _*ℤ_}
 use lib.ListN.{getD}
-use Rattle.integers.specs.Numbers.{clamp}
-use Rattle.border.specs.Border.{reflect}
-use Rattle.filters.specs.Bank.{Taps, weighted, along, low-split, high-split, high-join, rescaled}
+use Rattle.filters.specs.Bank.{Taps, weighted, low-split, high-split, high-join, rescaled}
 use Rattle.lines.specs.Lines.{value, Run, three}
-
--- the part of z outside −limit..limit
-unfoldable pub excess : ℤ → ℤ → ℤ
-excess limit z = z -ℤ clamp (negℤ limit) limit z
+use Rattle.projection.specs.Fast.{excess}
 
 -- ---- the difference of a plane and its guide
 -- place k of the guide's samples that stand `step` apart, from `from` on
@@ -39,17 +34,12 @@ outer-minus limit line k = outer high-split limit line k -ℤ outer low-split li
 unfoldable pub outer-plus : ℤ → List ℤ → ℕ → ℤ
 outer-plus limit line k = outer high-split limit line k +ℤ outer low-split limit line k
 
--- ---- along a line, reflected at its border
 -- the line that begins at a place of a list
 abbrev pub from-place : ℕ → List ℤ → ℕ → ℤ
 from-place pad l k = value l (pad + k)
 
-unfoldable pub outer-part : Taps → ℤ → ℕ → (ℕ → ℤ) → ℕ → ℤ
-outer-part t limit n line i = excess limit (along t 1 n line i)
-
 -- ---- joined
--- Five values, of one list and of another in turn, through the high join taps. Where the one holds q − p and the other q + p, this is p
--- through the low join taps and q through the high ones (law `crossed-joins`).
+-- five values, of one list and of another in turn, through the high join taps
 unfoldable pub crossed : List ℤ → List ℤ → ℕ → ℕ → ℕ → ℕ → ℕ → ℕ → ℤ
 crossed x y a b c d e k = weighted high-join (value x (a + k)) (value y (b + k)) (value x (c + k)) (value y (d + k)) (value x (e + k))
 
@@ -60,11 +50,6 @@ pub record Crossing (m : ℕ) (x y : List ℤ) (a b c d e n : ℕ) : Type 0 wher
   pub third : Run m x c n
   pub fourth : Run m y d n
   pub fifth : Run m x e n
-
--- the same at place i of two lines of n, reflected at their border
-unfoldable pub crossed-along : ℕ → (ℕ → ℤ) → (ℕ → ℤ) → ℕ → ℤ
-crossed-along n x y i =
-    weighted high-join (x (reflect n (pos i -ℤ pos 2))) (y (reflect n (pos i -ℤ pos 1))) (x (reflect n (pos i))) (y (reflect n (pos i +ℤ pos 1))) (x (reflect n (pos i +ℤ pos 2)))
 
 -- the joined parts of a row: along the row, from the three padded lines of parts
 unfoldable pub joined-minus : List ℤ → List ℤ → List ℤ → ℕ → ℤ

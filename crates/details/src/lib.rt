@@ -7,7 +7,8 @@ ghost use Rattle.integers.specs.Lists.{overwrite};
 ghost use Rattle.filters.specs.Bank.{Distance, low-split, high-split, high-join, along};
 ghost use Rattle.turns.specs.Filling.{InRow};
 ghost use Rattle.lines.specs.Lines.{value, Run, padded};
-ghost use Rattle.details.specs.Details.{excess as outside, difference-line, Triple, outer, outer-minus, outer-plus, from-place, outer-part, crossed, Crossing, crossed-along, joined-minus, joined-plus, settled};
+ghost use Rattle.projection.specs.Fast.{excess as outside, outer-part, crossed-along};
+ghost use Rattle.details.specs.Details.{difference-line, Triple, outer, outer-minus, outer-plus, from-place, crossed, Crossing, joined-minus, joined-plus, settled};
 
 // A value less the guide's sample.
 fn difference(x: i32, guide: u16) -> i32

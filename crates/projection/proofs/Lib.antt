@@ -1,3 +1,2 @@
 pub mod Projection
-pub mod Rows
-pub mod Sweep
+pub mod Parts

@@ -14,8 +14,7 @@ use Rattle.filters.proofs.Linearity.{add-bands, times-bands, split-add, split-t
 use Rattle.filters.proofs.Reconstruction.{reconstruct}
 use Rattle.filters.proofs.Turned.{exchange-bands, split-commutes, join-commutes}
 use Rattle.projection.specs.Projection.{held, hold-details, held-sum, projected}
-use Rattle.details.specs.Details.{excess}
-use Rattle.projection.specs.Fast.{excess-details, difference}
+use Rattle.projection.specs.Fast.{excess, excess-details, difference}
 
 -- ---- what is held, and what is outside
 -- holding a value is taking away what its difference to the guide has outside the limit
@@ -68,11 +67,11 @@ module _ (d w h : ℕ) where
 pub held-sum-fast : (w h : ℕ) → 0 < w → 0 < h → (limit : ℤ) (d : ℕ) (guide own : ℕ → ℕ → ℤ) (r c : ℕ) → r < h → c < w
     → held-sum limit d w h guide own r c ≡ pos 1024 *ℤ own r c -ℤ join d w h (λ i j. excess-details limit (split d w h (difference own guide) i j)) r c
 unfolding held-sum
-held-sum-fast w h wide high limit d guide own r c hr hc =
+held-sum-fast w h wide tall limit d guide own r c hr hc =
     (λ m. join d w h (λ i j. hold-excess limit (split d w h guide i j) (split d w h own i j) m) r c)
     ∙ (λ m. join d w h (λ i j. minus-bands (split d w h own i j) (excess-details limit (sym (split-difference d w h own guide i j) m))) r c)
     ∙ join-difference d w h (split d w h own) (λ i j. excess-details limit (split d w h (difference own guide) i j)) r c
-    ∙ ap (λ z. z -ℤ join d w h (λ i j. excess-details limit (split d w h (difference own guide) i j)) r c) (reconstruct w h wide high d own r c hr hc)
+    ∙ ap (λ z. z -ℤ join d w h (λ i j. excess-details limit (split d w h (difference own guide) i j)) r c) (reconstruct w h wide tall d own r c hr hc)
 
 -- ---- turns; a place has its guide's value, and its own
 -- the joined sum sees only what is inside, and commutes with every turn

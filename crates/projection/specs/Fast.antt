@@ -1,9 +1,14 @@
 -- The projection as code goes: from a plane's sums is taken what the details of its difference to the guide have outside the limit.
 -- Assumes nothing.
 use Prim.Native.Nat.{ℕ}
-use lib.IntN.{ℤ, pos, _-ℤ_}
-use Rattle.filters.specs.Bank.{Bands}
-use Rattle.details.specs.Details.{excess}
+use lib.IntN.{ℤ, pos, negℤ, _+ℤ_, _-ℤ_}
+use Rattle.integers.specs.Numbers.{clamp}
+use Rattle.border.specs.Border.{reflect}
+use Rattle.filters.specs.Bank.{Taps, weighted, along, Bands, low-split, high-split, low-join, high-join}
+
+-- the part of z outside −limit..limit
+unfoldable pub excess : ℤ → ℤ → ℤ
+excess limit z = z -ℤ clamp (negℤ limit) limit z
 
 -- no band 1; in bands 2, 3 and 4 the part outside
 unfoldable pub excess-details : ℤ → Bands ℤ → Bands ℤ
@@ -17,3 +22,30 @@ excess-details limit b = record {
 -- how far a plane is from the guide, place by place
 unfoldable pub difference : (ℕ → ℕ → ℤ) → (ℕ → ℕ → ℤ) → ℕ → ℕ → ℤ
 difference own guide r c = own r c -ℤ guide r c
+
+-- ---- row by row: along a line of n, reflected at its border
+-- what of a split filter's value lies outside the limit
+unfoldable pub outer-part : Taps → ℤ → ℕ → (ℕ → ℤ) → ℕ → ℤ
+outer-part t limit n line i = excess limit (along t 1 n line i)
+
+-- Five values, of one line and of another in turn, through the high join taps. Where the one holds q − p and the other q + p, this is p
+-- through the low join taps and q through the high ones (law `crossed-joins`).
+unfoldable pub crossed-along : ℕ → (ℕ → ℤ) → (ℕ → ℤ) → ℕ → ℤ
+crossed-along n x y i =
+    weighted high-join (x (reflect n (pos i -ℤ pos 2))) (y (reflect n (pos i -ℤ pos 1))) (x (reflect n (pos i))) (y (reflect n (pos i +ℤ pos 1))) (x (reflect n (pos i +ℤ pos 2)))
+
+-- ---- a row of the joined parts
+-- band 2's parts joined along the row, from the line that is low along the columns
+unfoldable pub low-parts : ℤ → ℕ → (ℕ → ℤ) → ℕ → ℤ
+low-parts limit w low c = along high-join 1 w (outer-part high-split limit w low) c
+
+-- bands 3's and 4's, from the line that is high along them
+unfoldable pub high-parts : ℤ → ℕ → (ℕ → ℤ) → ℕ → ℤ
+high-parts limit w high c = along low-join 1 w (outer-part low-split limit w high) c +ℤ along high-join 1 w (outer-part high-split limit w high) c
+
+-- their difference and their sum
+unfoldable pub apart-row : ℤ → ℕ → (ℕ → ℤ) → (ℕ → ℤ) → ℕ → ℤ
+apart-row limit w low high c = high-parts limit w high c -ℤ low-parts limit w low c
+
+unfoldable pub together-row : ℤ → ℕ → (ℕ → ℤ) → (ℕ → ℤ) → ℕ → ℤ
+together-row limit w low high c = high-parts limit w high c +ℤ low-parts limit w low c

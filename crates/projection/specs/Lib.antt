@@ -1,4 +1,2 @@
 pub mod Projection
 pub mod Fast
-pub mod Planes
-pub mod Rows

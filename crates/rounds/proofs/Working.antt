@@ -17,8 +17,8 @@ use Rattle.turns.proofs.Commuting.{Agree}
 use Rattle.turns.proofs.Frames.{place-inside}
 use Rattle.lines.specs.Lines.{value}
 use Rattle.projection.specs.Projection.{projected}
-use Rattle.projection.specs.Planes.{own-plane, guide-plane, Projectable}
 use Rattle.projection.proofs.Projection.{projected-agrees}
+use Rattle.sweep.specs.Planes.{own-plane, guide-plane, Projectable}
 use Rattle.work_buffer.specs.Places.{places, place, sample, put, Narrow, Workable}
 use Rattle.work_buffer.specs.Buffer.{with-plane}
 use Rattle.work_buffer.proofs.Buffer.{length-with-plane, with-plane-at, plane-with, with-plane-agree, with-plane-again, with-own-plane, loaded, put-samples, SampleTo, narrow-plane}

@@ -109,7 +109,7 @@ fn round(colour: Colour, mosaic: &[u16], green: &[u16], work: &mut [i32])
     let height = colour.height;
     let limit = limit_of(colour.threshold);
     let most = work_buffer::widened(colour.top);
-    projection::project(work, 0, green, 0, width, 1, width, height, limit, 0, most);
+    sweep::project(work, 0, green, 0, width, 1, width, height, limit, 0, most);
     let first = colour.row * width + colour.column;
     let columns = (width + 1 - colour.column) / 2;
     let rows = (height + 1 - colour.row) / 2;

@@ -21,8 +21,8 @@ use Rattle.turns.proofs.Commuting.{Agree}
 use Rattle.turns.proofs.Frames.{row-inside, column-inside, place-inside as cell-inside, plane-of-listing, listing-agree}
 use Rattle.lines.specs.Lines.{value}
 use Rattle.projection.specs.Projection.{projected}
-use Rattle.projection.specs.Planes.{own-plane, guide-plane, Projectable}
 use Rattle.projection.proofs.Projection.{projected-agrees}
+use Rattle.sweep.specs.Planes.{own-plane, guide-plane, Projectable}
 use Rattle.work_buffer.specs.Places.{places, place, sample, put, Narrow, Workable}
 use Rattle.work_buffer.specs.Buffer.{with-plane}
 use Rattle.work_buffer.proofs.Buffer.{with-plane-at, clipped-sample, narrow-plane}

@@ -99,7 +99,7 @@ fn update_places(
     let from = a * width + b;
     let down = 2 * width;
     gather(green, from, down, columns, rows, work);
-    projection::project(work, 0, mosaic, from, down, 2, columns, rows, 0, 0, 4095);
+    sweep::project(work, 0, mosaic, from, down, 2, columns, rows, 0, 0, 4095);
     scatter(work, columns, rows, green, from, down);
 }
 

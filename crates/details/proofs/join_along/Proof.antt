@@ -8,7 +8,8 @@ use lib.ListN.{length}
 use denote.Ref.{now}
 use Rattle.integers.proofs.Lists.{overwrite-cong}
 use Rattle.details.specs.Details.{from-place, joined-minus, joined-plus}
-use Rattle.details.proofs.Details.{crossing-padded, crossed-padded, crossed-same}
+use Rattle.projection.proofs.Parts.{crossed-same}
+use Rattle.details.proofs.Details.{crossing-padded, crossed-padded}
 use borrow.Author.Needs.{needs}
 use Rattle.details.proofs.join_along.Statement.{statement}
 use Rattle.details.proofs.join_along.Tie as tie

@@ -13,7 +13,7 @@ use Rattle.integers.specs.Lists.{overwrite}
 use Rattle.integers.proofs.Bounds.{read-is}
 use Rattle.filters.specs.Bank.{Distance}
 use Rattle.projection.specs.Projection.{projected}
-use Rattle.projection.specs.Planes.{own-plane, guide-plane}
+use Rattle.sweep.specs.Planes.{own-plane, guide-plane}
 use Rattle.work_buffer.specs.Places.{places}
 use Rattle.work_buffer.proofs.Places.{small-rows}
 use Rattle.rounds.specs.Rounds.{limit-of}

@@ -1,4 +1,4 @@
--- `projection::parts_row` meets its contract: both lines along the columns, what lies outside along them, and that joined.
+-- `sweep::parts_row` meets its contract: both lines along the columns, what lies outside along them, and that joined.
 -- Assumes nothing.
 use mathlib.Core.Path.{sym, _∙_, subst}
 use native.Mathlib.Omega.{arith}
@@ -8,11 +8,12 @@ use mir.Val.{toZ, ofZ}
 use mir.Facts.{toZ-ofZ as back}
 use Rattle.integers.specs.Lists.{overwrite}
 use Rattle.filters.specs.Bank.{Distance, low-split, high-split}
-use Rattle.projection.specs.Rows.{slot, apart-row, together-row, ring-line}
-use Rattle.projection.proofs.Rows.{slot-room, four, ring-runs, line-laid, line-run, outer-runs, both-laid}
+use Rattle.projection.specs.Fast.{apart-row, together-row}
+use Rattle.sweep.specs.Rows.{slot, ring-line}
+use Rattle.sweep.proofs.Rows.{slot-room, four, ring-runs, line-laid, line-run, outer-runs, both-laid}
 use borrow.Author.Needs.{needs}
-use Rattle.projection.proofs.parts_row.Statement.{statement}
-use Rattle.projection.proofs.parts_row.Tie as tie
+use Rattle.sweep.proofs.parts_row.Statement.{statement}
+use Rattle.sweep.proofs.parts_row.Tie as tie
 
 slot-before-requires : tie.Need-slot-before-requires
 slot-before-requires c κs = search needs

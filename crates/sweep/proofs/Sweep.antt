@@ -22,13 +22,14 @@ use Rattle.filters.proofs.Ranges.{gain, along-range}
 use Rattle.turns.specs.Filling.{InRow}
 use Rattle.lines.specs.Lines.{value, Run, three}
 use Rattle.lines.proofs.Lines.{outside}
-use Rattle.details.specs.Details.{difference-line, guide-value, crossed, crossed-along, settled}
 use Rattle.projection.specs.Projection.{projected}
-use Rattle.projection.specs.Fast.{difference}
-use Rattle.projection.specs.Planes.{own-plane, guide-plane, reach, Projectable}
-use Rattle.projection.specs.Rows.{slot, apart-row, together-row, ring-line, RingRows, ring-sum, settled-row, Settleable}
+use Rattle.projection.specs.Fast.{difference, crossed-along, apart-row, together-row}
 use Rattle.projection.proofs.Projection.{held-sum-fast}
-use Rattle.projection.proofs.Rows.{slot-room, four, low-line, high-line, apart-plane, together-plane, apart-range, together-range, apart-inside, together-inside, crossed-parts}
+use Rattle.projection.proofs.Parts.{low-line, high-line, apart-plane, together-plane, apart-range, together-range, apart-inside, together-inside, crossed-parts}
+use Rattle.details.specs.Details.{difference-line, guide-value, crossed, settled}
+use Rattle.sweep.specs.Planes.{own-plane, guide-plane, reach, Projectable}
+use Rattle.sweep.specs.Rows.{slot, ring-line, RingRows, ring-sum, settled-row, Settleable}
+use Rattle.sweep.proofs.Rows.{slot-room, four}
 
 -- ---- rings
 -- a ring of n slots holds plane f's rows from lo on and below hi

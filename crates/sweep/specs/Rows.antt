@@ -4,10 +4,10 @@ use Prim.Native.Nat.{ℕ, _+_, _*_, _%_, _≤_, _<_}
 use lib.IntN.{ℤ, pos, _+ℤ_, _-ℤ_}
 use lib.ListN.{length}
 use Rattle.border.specs.Border.{reflect}
-use Rattle.filters.specs.Bank.{Taps, along, low-split, high-split, low-join, high-join}
+use Rattle.filters.specs.Bank.{Taps}
 use Rattle.lines.specs.Lines.{Run, three}
-use Rattle.details.specs.Details.{outer-part, Crossing, crossed, settled}
-use Rattle.projection.specs.Planes.{own-plane, reach}
+use Rattle.details.specs.Details.{Crossing, crossed, settled}
+use Rattle.sweep.specs.Planes.{own-plane, reach}
 
 -- where row q of width w begins in a ring of n slots; and where the row begins that an index means in a plane of height h
 abbrev pub slot : ℕ → ℕ → ℕ → ℕ
@@ -17,21 +17,6 @@ abbrev pub slot-of : ℕ → ℕ → ℕ → ℤ → ℕ
 slot-of n w h i = slot n w (reflect h i)
 
 -- ---- a row of the joined parts
--- band 2's parts joined along the row, from the line that is low along the columns
-unfoldable pub low-parts : ℤ → ℕ → (ℕ → ℤ) → ℕ → ℤ
-low-parts limit w low c = along high-join 1 w (outer-part high-split limit w low) c
-
--- bands 3's and 4's, from the line that is high along them
-unfoldable pub high-parts : ℤ → ℕ → (ℕ → ℤ) → ℕ → ℤ
-high-parts limit w high c = along low-join 1 w (outer-part low-split limit w high) c +ℤ along high-join 1 w (outer-part high-split limit w high) c
-
--- their difference and their sum
-unfoldable pub apart-row : ℤ → ℕ → (ℕ → ℤ) → (ℕ → ℤ) → ℕ → ℤ
-apart-row limit w low high c = high-parts limit w high c -ℤ low-parts limit w low c
-
-unfoldable pub together-row : ℤ → ℕ → (ℕ → ℤ) → (ℕ → ℤ) → ℕ → ℤ
-together-row limit w low high c = high-parts limit w high c +ℤ low-parts limit w low c
-
 -- the split lines of row r, from the ring of the differences' rows
 unfoldable pub ring-line : Taps → List ℤ → ℕ → ℕ → ℕ → ℕ → ℤ
 ring-line t ring w h r = three t ring (slot-of 3 w h (pos r -ℤ pos 1)) (slot 3 w r) (slot-of 3 w h (pos r +ℤ pos 1))

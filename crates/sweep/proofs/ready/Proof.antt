@@ -1,8 +1,8 @@
--- `projection::ready` meets its contract: the rows that five rows of parts are there for.
+-- `sweep::ready` meets its contract: the rows that five rows of parts are there for.
 -- Assumes nothing.
 use native.Mathlib.Omega.{arith}
-use Rattle.projection.proofs.ready.Statement.{statement}
-use Rattle.projection.proofs.ready.Tie as tie
+use Rattle.sweep.proofs.ready.Statement.{statement}
+use Rattle.sweep.proofs.ready.Tie as tie
 
 returns : tie.Need-returns
 returns c = omega arith

@@ -1,4 +1,4 @@
--- `projection::settle_rows` meets its contract: after a turn, one more row is settled.
+-- `sweep::settle_rows` meets its contract: after a turn, one more row is settled.
 -- Assumes nothing.
 use mathlib.Core.Path.{_≡_, refl, _∙_, ap}
 use Prim.Native.Nat.{ℕ, _+_, _*_, _-_, _/_, _%_, _≤_, _<_}
@@ -11,11 +11,11 @@ use mir.Val.{toZ, ofZ}
 use mir.Facts.{toZ-ofZ as back}
 use Rattle.integers.specs.Lists.{overwrite}
 use Rattle.turns.proofs.Frames.{overwrite-no-row}
-use Rattle.projection.specs.Rows.{settled-row}
-use Rattle.projection.proofs.Rows.{slot-room, row-to-settle, rings-to-settle, row-settled}
+use Rattle.sweep.specs.Rows.{settled-row}
+use Rattle.sweep.proofs.Rows.{slot-room, row-to-settle, rings-to-settle, row-settled}
 use borrow.Author.Needs.{needs}
-use Rattle.projection.proofs.settle_rows.Statement.{statement}
-use Rattle.projection.proofs.settle_rows.Tie as tie
+use Rattle.sweep.proofs.settle_rows.Statement.{statement}
+use Rattle.sweep.proofs.settle_rows.Tie as tie
 
 abbrev Inv-loop : tie.InvT-loop
 Inv-loop own₀ at width height first last apart together low high r₀ own r =

@@ -1,4 +1,4 @@
--- `projection::difference_row` meets its contract: the row's places are found, and the differences laid down there.
+-- `sweep::difference_row` meets its contract: the row's places are found, and the differences laid down there.
 -- Assumes nothing.
 use mathlib.Core.Path.{_≡_, sym, _∙_, ap, subst}
 use Prim.Native.Nat.{ℕ, _+_, _*_}
@@ -6,13 +6,13 @@ use denote.Ref.{now}
 use Rattle.turns.specs.Filling.{InRow}
 use Rattle.integers.specs.Lists.{overwrite}
 use Rattle.details.specs.Details.{difference-line}
-use Rattle.projection.specs.Rows.{slot}
+use Rattle.sweep.specs.Rows.{slot}
 use native.Mathlib.Omega.{arith}
 use Rattle.lines.proofs.Lines.{run-wider}
-use Rattle.projection.proofs.Rows.{slot-room}
+use Rattle.sweep.proofs.Rows.{slot-room}
 use borrow.Author.Needs.{needs}
-use Rattle.projection.proofs.difference_row.Statement.{statement}
-use Rattle.projection.proofs.difference_row.Tie as tie
+use Rattle.sweep.proofs.difference_row.Statement.{statement}
+use Rattle.sweep.proofs.difference_row.Tie as tie
 
 mul-row : tie.Need-mul-row
 mul-row c = search needs

@@ -1,4 +1,4 @@
--- `projection::project` meets its contract: the rings and lines are its own.
+-- `sweep::project` meets its contract: the rings and lines are its own.
 -- Assumes nothing.
 use mathlib.Core.Path.{sym, _∙_, subst}
 use Prim.Native.Nat.{_*_, _/_, _%_}
@@ -7,11 +7,11 @@ use denote.Ref.{now}
 use mir.Facts.{toZ-ofZ as back}
 use Rattle.filters.specs.Bank.{Distance}
 use Rattle.integers.specs.Lists.{overwrite}
 use Rattle.projection.specs.Projection.{projected}
-use Rattle.projection.specs.Planes.{own-plane, guide-plane}
+use Rattle.sweep.specs.Planes.{own-plane, guide-plane}
 use borrow.Author.Needs.{needs}
-use Rattle.projection.proofs.project.Statement.{statement}
-use Rattle.projection.proofs.project.Tie as tie
+use Rattle.sweep.proofs.project.Statement.{statement}
+use Rattle.sweep.proofs.project.Tie as tie
 
 slice-aggregate-project-rows : tie.Need-slice-aggregate-project-rows
 slice-aggregate-project-rows c = search needs

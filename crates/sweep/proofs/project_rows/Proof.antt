@@ -1,4 +1,4 @@
--- `projection::project_rows` meets its contract: after r turns, r rows of parts are joined, and all but the last two of them settled.
+-- `sweep::project_rows` meets its contract: after r turns, r rows of parts are joined, and all but the last two of them settled.
 -- Assumes nothing.
 use mathlib.Core.Path.{_≡_, refl, sym, _∙_, ap, subst}
 use Prim.Native.Nat.{_*_, _-_, _/_, _%_, _≤_}
@@ -10,11 +10,11 @@ use mir.Val.{toZ, ofZ}
 use mir.Facts.{toZ-ofZ as back}
 use Rattle.filters.specs.Bank.{Distance}
 use Rattle.integers.specs.Lists.{overwrite}
 use Rattle.projection.specs.Projection.{projected}
-use Rattle.projection.specs.Planes.{own-plane, guide-plane}
-use Rattle.projection.proofs.Sweep.{Swept, with-rows, start, first-rows, next-rows, ring-rows, settleable-next, swept-next, settleable, rows-settled, all-projected}
-use Rattle.projection.proofs.project_rows.Statement.{statement}
-use Rattle.projection.proofs.project_rows.Tie as tie
+use Rattle.sweep.specs.Planes.{own-plane, guide-plane}
+use Rattle.sweep.proofs.Sweep.{Swept, with-rows, start, first-rows, next-rows, ring-rows, settleable-next, swept-next, settleable, rows-settled, all-projected}
+use Rattle.sweep.proofs.project_rows.Statement.{statement}
+use Rattle.sweep.proofs.project_rows.Tie as tie
 
 abbrev Inv-loop : tie.InvT-loop
 Inv-loop own₀ at guide from down across width height limit low high differences₀ line1₀ line2₀ parts₀ minus₀ plus₀ apart₀ together₀ r₀ own differences line1 line2 parts minus plus apart together r =
