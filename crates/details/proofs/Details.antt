@@ -24,7 +24,8 @@ use Rattle.lines.specs.Lines.{value, Run, three, padded}
 use Rattle.lines.proofs.Lines.{run-wider, read-small, three-small, three-read, three-range, padded-near, three-along, three-runs, five-runs}
 use Rattle.projection.specs.Fast.{excess, outer-part, crossed-along}
 use Rattle.projection.proofs.Parts.{excess-bound}
-use Rattle.details.specs.Details.{Triple, outer, from-place, crossed, Crossing}
+use Rattle.details.specs.declared.Five.{Five}
+use Rattle.details.specs.Details.{Triple, outer, from-place, crossed, Crossing, in-turn}
 
 -- ---- what lies outside a limit, by the two tests
 opposite : (limit : ℤ) → pos 0 -ℤ limit ≡ negℤ limit
@@ -60,19 +61,19 @@ module _ (t : Taps) {m : ℕ} {l : List ℤ} {n : ℕ} (r : Triple m l n) (k : �
   triple-range = three-range t (r .first) (r .second) (r .third) k i
 
 -- ---- five places, of one list and of another in turn
-module _ {m : ℕ} {x y : List ℤ} {a b c d e n : ℕ} (r : Crossing m x y a b c d e n) (k : ℕ) (i : k < n) where
+module _ {m : ℕ} {x y : List ℤ} {v : Five} {n : ℕ} (r : Crossing m x y v n) (k : ℕ) (i : k < n) where
   pub crossing-small : (most : ℕ) → m ≤ most
-      → (natAbs (read x (a + k)) ≤ most) × (natAbs (read y (b + k)) ≤ most) × (natAbs (read x (c + k)) ≤ most) × (natAbs (read y (d + k)) ≤ most) × (natAbs (read x (e + k)) ≤ most)
+      → (natAbs (read x (v .a + k)) ≤ most) × (natAbs (read y (v .b + k)) ≤ most) × (natAbs (read x (v .c + k)) ≤ most) × (natAbs (read y (v .d + k)) ≤ most) × (natAbs (read x (v .e + k)) ≤ most)
   crossing-small most h = (read-small most h (r .first) k i, read-small most h (r .second) k i, read-small most h (r .third) k i, read-small most h (r .fourth) k i, read-small most h (r .fifth) k i)
 
-  pub crossing-read : m < 2147483648 → weighted high-join (read x (a + k)) (read y (b + k)) (read x (c + k)) (read y (d + k)) (read x (e + k)) ≡ crossed x y a b c d e k
+  pub crossing-read : m < 2147483648 → weighted high-join (read x (v .a + k)) (read y (v .b + k)) (read x (v .c + k)) (read y (v .d + k)) (read x (v .e + k)) ≡ crossed x y v k
   unfolding crossed
   crossing-read h = λ j. weighted high-join (at (r .first) j) (at (r .second) j) (at (r .third) j) (at (r .fourth) j) (at (r .fifth) j)
     where
       at : {l : List ℤ} {o : ℕ} → Run m l o n → read l (o + k) ≡ value l (o + k)
       at {l} {o} run = back (fits-abs w32 (value l (o + k)) (omega (arith, run .small k i)))
 
-  pub crossing-range : natAbs (crossed x y a b c d e k) ≤ 12 * m
+  pub crossing-range : natAbs (crossed x y v k) ≤ 12 * m
   unfolding crossed gain high-join
   crossing-range = weighted-range high-join m _ _ _ _ _ (r .first .small k i) (r .second .small k i) (r .third .small k i) (r .fourth .small k i) (r .fifth .small k i)
 
@@ -82,7 +83,7 @@ unfolding outer
 outer-range t limit s {m} {l} r k i = omega (arith, excess-bound limit (three t l 0 1 2 k) s, triple-range t r k i)
 
 -- within a larger bound too
-pub crossing-wider : {m most : ℕ} → m ≤ most → {x y : List ℤ} {a b c d e n : ℕ} → Crossing m x y a b c d e n → Crossing most x y a b c d e n
+pub crossing-wider : {m most : ℕ} → m ≤ most → {x y : List ℤ} {v : Five} {n : ℕ} → Crossing m x y v n → Crossing most x y v n
 crossing-wider h r = record {
   first = run-wider h (r .first);
   second = run-wider h (r .second);
@@ -114,13 +115,13 @@ module _ {n : ℕ} (some : 1 ≤ n) where
       q ∙ (λ j. overwrite out 2 n (λ k. f (outer high-split (z j) line k) (outer low-split (z j) line k)))
       ∙ overwrite-cong out 2 n _ _ (λ k i. λ j. f (outer-padded high-split refl limit l fit e k i j) (outer-padded low-split refl limit l fit e k i j))
 
-  pub crossing-padded : {m : ℕ} (x y : List ℤ) {x' y' : List ℤ} → 2 + n + 2 ≤ length x → 2 + n + 2 ≤ length y → x' ≡ padded n 2 x → y' ≡ padded n 2 y → Run m x 2 n → Run m y 2 n → Crossing m x' y' 0 1 2 3 4 n
+  pub crossing-padded : {m : ℕ} (x y : List ℤ) {x' y' : List ℤ} → 2 + n + 2 ≤ length x → 2 + n + 2 ≤ length y → x' ≡ padded n 2 x → y' ≡ padded n 2 y → Run m x 2 n → Run m y 2 n → Crossing m x' y' in-turn n
   crossing-padded {m} x y {x'} {y'} fx fy ex ey rx ry =
       let p = five-runs some x fx ex rx in
       let q = five-runs some y fy ey ry in
       record { first = p .first; second = q .second; third = p .third; fourth = q .fourth; fifth = p .fifth }
 
-  pub crossed-padded : (x y : List ℤ) {x' y' : List ℤ} → 2 + n + 2 ≤ length x → 2 + n + 2 ≤ length y → x' ≡ padded n 2 x → y' ≡ padded n 2 y → (k : ℕ) → k < n → crossed x' y' 0 1 2 3 4 k ≡ crossed-along n (from-place 2 x) (from-place 2 y) k
+  pub crossed-padded : (x y : List ℤ) {x' y' : List ℤ} → 2 + n + 2 ≤ length x → 2 + n + 2 ≤ length y → x' ≡ padded n 2 x → y' ≡ padded n 2 y → (k : ℕ) → k < n → crossed x' y' in-turn k ≡ crossed-along n (from-place 2 x) (from-place 2 y) k
   unfolding crossed crossed-along
   crossed-padded x y {x'} {y'} fx fy ex ey k i = λ m.
       weighted high-join (at x fx ex 0 (pos k -ℤ pos 2) (omega arith) refl m) (at y fy ey 1 (pos k -ℤ pos 1) (omega arith) refl m) (at x fx ex 2 (pos k) (omega arith) (+ℤ-idr (pos k)) m) (at y fy ey 3 (pos k +ℤ pos 1) (omega arith) refl m) (at x fx ex 4 (pos k +ℤ pos 2) (omega arith) refl m)

@@ -7,6 +7,7 @@ use lib.ListN.{getD}
 use Rattle.filters.specs.Bank.{Taps, weighted, low-split, high-split, high-join, rescaled}
 use Rattle.lines.specs.Lines.{value, Run, three}
 use Rattle.projection.specs.Fast.{excess}
+use Rattle.details.specs.declared.Five.{Five}
 
 -- ---- the difference of a plane and its guide
 -- place k of the guide's samples that stand `step` apart, from `from` on
@@ -40,24 +41,29 @@ from-place pad l k = value l (pad + k)
 
 -- ---- joined
 -- five values, of one list and of another in turn, through the high join taps
-unfoldable pub crossed : List ℤ → List ℤ → ℕ → ℕ → ℕ → ℕ → ℕ → ℕ → ℤ
-crossed x y a b c d e k = weighted high-join (value x (a + k)) (value y (b + k)) (value x (c + k)) (value y (d + k)) (value x (e + k))
+unfoldable pub crossed : List ℤ → List ℤ → Five → ℕ → ℤ
+crossed x y five k =
+    weighted high-join (value x (five .a + k)) (value y (five .b + k)) (value x (five .c + k)) (value y (five .d + k)) (value x (five .e + k))
 
 -- five such runs of n places
-pub record Crossing (m : ℕ) (x y : List ℤ) (a b c d e n : ℕ) : Type 0 where
-  pub first : Run m x a n
-  pub second : Run m y b n
-  pub third : Run m x c n
-  pub fourth : Run m y d n
-  pub fifth : Run m x e n
+pub record Crossing (m : ℕ) (x y : List ℤ) (five : Five) (n : ℕ) : Type 0 where
+  pub first : Run m x (five .a) n
+  pub second : Run m y (five .b) n
+  pub third : Run m x (five .c) n
+  pub fourth : Run m y (five .d) n
+  pub fifth : Run m x (five .e) n
+
+-- five places next to each other
+abbrev pub in-turn : Five
+in-turn = record { a = 0; b = 1; c = 2; d = 3; e = 4 }
 
 -- the joined parts of a row: along the row, from the three padded lines of parts
-unfoldable pub joined-minus : List ℤ → List ℤ → List ℤ → ℕ → ℤ
-joined-minus parts minus plus k = crossed minus plus 0 1 2 3 4 k -ℤ crossed parts parts 0 1 2 3 4 k
+unfoldable pub joined-apart : List ℤ → List ℤ → List ℤ → ℕ → ℤ
+joined-apart parts minus plus k = crossed minus plus in-turn k -ℤ crossed parts parts in-turn k
 
-unfoldable pub joined-plus : List ℤ → List ℤ → List ℤ → ℕ → ℤ
-joined-plus parts minus plus k = crossed minus plus 0 1 2 3 4 k +ℤ crossed parts parts 0 1 2 3 4 k
+unfoldable pub joined-together : List ℤ → List ℤ → List ℤ → ℕ → ℤ
+joined-together parts minus plus k = crossed minus plus in-turn k +ℤ crossed parts parts in-turn k
 
 -- ---- 1,024 times a value, less a joined sum, brought back
 unfoldable pub settled : ℤ → ℤ → ℤ → ℤ → ℤ
-settled low high x sum = rescaled 1024 low high (pos 1024 *ℤ x -ℤ sum)
+settled least most x sum = rescaled 1024 least most (pos 1024 *ℤ x -ℤ sum)

@@ -8,7 +8,7 @@ ghost use Rattle.filters.specs.Bank.{Distance, low-split, high-split, high-join
 ghost use Rattle.turns.specs.Filling.{InRow};
 ghost use Rattle.lines.specs.Lines.{value, Run, padded};
 ghost use Rattle.projection.specs.Fast.{excess as outside, outer-part, crossed-along};
-ghost use Rattle.details.specs.Details.{difference-line, Triple, outer, outer-minus, outer-plus, from-place, crossed, Crossing, joined-minus, joined-plus, settled};
+ghost use Rattle.details.specs.Details.{difference-line, Triple, outer, outer-minus, outer-plus, from-place, in-turn, crossed, Crossing, joined-apart, joined-together, settled};
 
 // A value less the guide's sample.
 fn difference(x: i32, guide: u16) -> i32
@@ -92,10 +92,10 @@ fn outer_lines(line: &[i32], limit: i32, n: usize, minus: &mut [i32], plus: &mut
 {
     let mut k = 0;
     while k < n {
-        let high = outer_high(line, limit, n, k);
-        let low = outer_low(line, limit, n, k);
-        minus[at + k] = high - low;
-        plus[at + k] = high + low;
+        let q = outer_high(line, limit, n, k);
+        let p = outer_low(line, limit, n, k);
+        minus[at + k] = q - p;
+        plus[at + k] = q + p;
         k += 1;
     }
 }
@@ -124,22 +124,27 @@ pub fn outer_along(
     outer_lines(high, limit, n, minus, plus, 2);
 }
 
+// Where five runs begin.
+pub struct Five {
+    pub a: usize,
+    pub b: usize,
+    pub c: usize,
+    pub d: usize,
+    pub e: usize,
+}
+
 // Five values, of x and of y in turn, through the high join filter.
-fn crossed_at(
-    x: &[i32],
-    y: &[i32],
-    a: usize,
-    b: usize,
-    c: usize,
-    d: usize,
-    e: usize,
-    n: usize,
-    k: usize,
-) -> i32
-    requires { ⌜ Crossing 134217728 (now x) (now y) a b c d e n × (k < n) ⌝ }
-    ensures { λ r. ⌜ r ≡ crossed (now (x .entry)) (now (y .entry)) a b c d e k ⌝ }
+fn crossed_at(x: &[i32], y: &[i32], five: Five, n: usize, k: usize) -> i32
+    requires { ⌜ Crossing 134217728 (now x) (now y) five n × (k < n) ⌝ }
+    ensures { λ r. ⌜ r ≡ crossed (now (x .entry)) (now (y .entry)) five k ⌝ }
 {
-    filters::high_join(x[a + k], y[b + k], x[c + k], y[d + k], x[e + k])
+    filters::high_join(
+        x[five.a + k],
+        y[five.b + k],
+        x[five.c + k],
+        y[five.d + k],
+        x[five.e + k],
+    )
 }
 
 // The joined parts of a row, along three padded lines of parts: their difference and their sum, from `at` on.
@@ -152,15 +157,22 @@ fn join_parts(
     together: &mut [i32],
     at: usize,
 )
-    requires { ⌜ Crossing 67108864 (now parts) (now parts) 0 1 2 3 4 n × Crossing 67108864 (now minus) (now plus) 0 1 2 3 4 n ⌝ }
+    requires { ⌜ Crossing 67108864 (now parts) (now parts) in-turn n × Crossing 67108864 (now minus) (now plus) in-turn n ⌝ }
     requires { ⌜ (at + n ≤ length (now apart)) × (at + n ≤ length (now together)) ⌝ }
-    ensures { λ _. ⌜ now (apart .exit) ≡ overwrite (now (apart .entry)) at n (joined-minus (now (parts .entry)) (now (minus .entry)) (now (plus .entry))) ⌝ }
-    ensures { λ _. ⌜ now (together .exit) ≡ overwrite (now (together .entry)) at n (joined-plus (now (parts .entry)) (now (minus .entry)) (now (plus .entry))) ⌝ }
+    ensures { λ _. ⌜ now (apart .exit) ≡ overwrite (now (apart .entry)) at n (joined-apart (now (parts .entry)) (now (minus .entry)) (now (plus .entry))) ⌝ }
+    ensures { λ _. ⌜ now (together .exit) ≡ overwrite (now (together .entry)) at n (joined-together (now (parts .entry)) (now (minus .entry)) (now (plus .entry))) ⌝ }
 {
     let mut k = 0;
     while k < n {
-        let p = crossed_at(parts, parts, 0, 1, 2, 3, 4, n, k);
-        let q = crossed_at(minus, plus, 0, 1, 2, 3, 4, n, k);
+        let five = Five {
+            a: 0,
+            b: 1,
+            c: 2,
+            d: 3,
+            e: 4,
+        };
+        let p = crossed_at(parts, parts, five, n, k);
+        let q = crossed_at(minus, plus, five, n, k);
         apart[at + k] = q - p;
         together[at + k] = q + p;
         k += 1;
@@ -190,36 +202,32 @@ pub fn join_along(
     join_parts(parts, minus, plus, n, apart, together, at);
 }
 
-// 1,024 times x, less a joined sum, brought back to low..high.
-fn settle(low: i32, high: i32, x: i32, sum: i32) -> i32
+// 1,024 times x, less a joined sum, brought back to least..most.
+fn settle(least: i32, most: i32, x: i32, sum: i32) -> i32
     requires { ⌜ (natAbs x ≤ 131070) × (natAbs sum ≤ 1610612736) ⌝ }
-    ensures { λ r. ⌜ r ≡ settled low high x sum ⌝ }
+    ensures { λ r. ⌜ r ≡ settled least most x sum ⌝ }
 {
-    filters::rescale_bounded(1024 * x - sum, low, high)
+    filters::rescale_bounded(1024 * x - sum, least, most)
 }
 
 // A line of n, from `at` on, less what is joined from five rows of the joined parts along the columns.
 pub fn settle_line(
     own: &mut [i32],
     at: usize,
-    minus: &[i32],
-    plus: &[i32],
-    a: usize,
-    b: usize,
-    c: usize,
-    d: usize,
-    e: usize,
+    apart: &[i32],
+    together: &[i32],
+    five: Five,
     n: usize,
-    low: i32,
-    high: i32,
+    least: i32,
+    most: i32,
 )
-    requires { ⌜ Run 131070 (now own) at n × Crossing 134217728 (now minus) (now plus) a b c d e n ⌝ }
-    ensures { λ _. ⌜ now (own .exit) ≡ overwrite (now (own .entry)) at n (λ k. settled low high (value (now (own .entry)) (at + k)) (crossed (now (minus .entry)) (now (plus .entry)) a b c d e k)) ⌝ }
+    requires { ⌜ Run 131070 (now own) at n × Crossing 134217728 (now apart) (now together) five n ⌝ }
+    ensures { λ _. ⌜ now (own .exit) ≡ overwrite (now (own .entry)) at n (λ k. settled least most (value (now (own .entry)) (at + k)) (crossed (now (apart .entry)) (now (together .entry)) five k)) ⌝ }
 {
     let mut k = 0;
     while k < n {
-        let sum = crossed_at(minus, plus, a, b, c, d, e, n, k);
-        own[at + k] = settle(low, high, own[at + k], sum);
+        let sum = crossed_at(apart, together, five, n, k);
+        own[at + k] = settle(least, most, own[at + k], sum);
         k += 1;
     }
 }

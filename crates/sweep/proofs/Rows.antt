@@ -18,9 +18,11 @@ use Rattle.lines.specs.Lines.{value, Run, three}
 use Rattle.lines.proofs.Lines.{run-wider, run-laid, three-range}
 use Rattle.projection.specs.Fast.{outer-part, crossed-along, low-parts, high-parts, apart-row, together-row}
 use Rattle.projection.proofs.Parts.{crossed-joins, along-inside, outer-inside, crossed-inside, outer-part-range}
+use Rattle.details.specs.declared.Five.{Five}
 use Rattle.details.specs.Details.{from-place, crossed, Crossing, settled}
+use Rattle.sweep.specs.declared.Given.{Given}
 use Rattle.sweep.specs.Planes.{reach, own-plane}
-use Rattle.sweep.specs.Rows.{slot, slot-of, ring-line, RingRows, ring-sum, settled-row, Settleable}
+use Rattle.sweep.specs.Rows.{slot, slot-of, row-at, ring-line, RingRows, five-slots, settled-row, with-settled, Settleable}
 
 -- ---- a row has room in its slot
 pub slot-room : (n w q : ℕ) → 1 ≤ n → slot n w q + w ≤ n * w
@@ -39,10 +41,13 @@ pub four : (gain low-split ≤ 4) × (gain high-split ≤ 4)
 unfolding gain low-split high-split
 four = (omega arith, omega arith)
 
-module _ (limit : ℤ) (sign : T (nonNeg limit)) (w h r : ℕ) (some : 1 ≤ w) (ring : List ℤ) (rows : RingRows reach ring w h r) where
+module _ (limit : ℤ) (sign : T (nonNeg limit)) (g : Given) (r : ℕ) (some : 1 ≤ g .width) (ring : List ℤ) (rows : RingRows g ring r) where
+  abbrev w : ℕ
+  w = g .width
+
   -- the two lines along the columns
   abbrev Line : Taps → ℕ → ℤ
-  Line t = ring-line t ring w h r
+  Line t = ring-line t g ring r
 
   pub line-range : (t : Taps) → gain t ≤ 4 → (k : ℕ) → k < w → natAbs (Line t k) ≤ 524280
   unfolding ring-line
@@ -104,54 +109,55 @@ module _ (limit : ℤ) (sign : T (nonNeg limit)) (w h r : ℕ) (some : 1 ≤ w) 
       both-laid l l' at z z' = (z ∙ overwrite-cong l at w _ _ (λ k i. λ m. high-joined k m -ℤ low-joined k m), z' ∙ overwrite-cong l' at w _ _ (λ k i. λ m. high-joined k m +ℤ low-joined k m))
 
 -- ---- from the slots that code found
-module _ (w h r : ℕ) (ring : List ℤ) {a b : ℕ} (is-a : a ≡ slot-of 3 w h (pos r -ℤ pos 1)) (is-b : b ≡ slot-of 3 w h (pos r +ℤ pos 1)) where
-  pub ring-runs : RingRows reach ring w h r → Run 134217728 ring a w × Run 134217728 ring (slot 3 w r) w × Run 134217728 ring b w
+module _ (g : Given) (r : ℕ) (ring : List ℤ) {a b : ℕ} (is-a : a ≡ slot-of 3 g (pos r -ℤ pos 1)) (is-b : b ≡ slot-of 3 g (pos r +ℤ pos 1)) where
+  pub ring-runs : RingRows g ring r → Run 134217728 ring a (g .width) × Run 134217728 ring (slot 3 (g .width) r) (g .width) × Run 134217728 ring b (g .width)
   ring-runs rows = (at is-a (rows .above), at refl (rows .here), at is-b (rows .below))
     where
-      at : {o p : ℕ} → o ≡ p → Run reach ring p w → Run 134217728 ring o w
-      at {o} {p} q run = subst (λ (i : ℕ). Run 134217728 ring i w) (sym q) (run-wider (omega arith) run)
+      at : {o p : ℕ} → o ≡ p → Run reach ring p (g .width) → Run 134217728 ring o (g .width)
+      at {o} {p} q run = subst (λ (i : ℕ). Run 134217728 ring i (g .width)) (sym q) (run-wider (omega arith) run)
 
-  pub line-laid : (t : Taps) (l : List ℤ) {line : List ℤ} → line ≡ overwrite l 1 w (three t ring a (slot 3 w r) b) → line ≡ overwrite l 1 w (ring-line t ring w h r)
+  pub line-laid : (t : Taps) (l : List ℤ) {line : List ℤ} → line ≡ overwrite l 1 (g .width) (three t ring a (slot 3 (g .width) r) b) → line ≡ overwrite l 1 (g .width) (ring-line t g ring r)
   unfolding ring-line
-  line-laid t l q = q ∙ (λ m. overwrite l 1 w (three t ring (is-a m) (slot 3 w r) (is-b m)))
+  line-laid t l q = q ∙ (λ m. overwrite l 1 (g .width) (three t ring (is-a m) (slot 3 (g .width) r) (is-b m)))
 
 -- ---- rows that are settled one after another
-module _ (low high : ℤ) (own : List ℤ) (at : ℕ) (apart together : List ℤ) (w h f n : ℕ) (s : Settleable own at apart together w h f n) where
-  -- the rows below r, from row f on
-  abbrev pub settled-to : ℕ → List ℤ
-  settled-to r = overwrite own (at + f * w) ((r - f) * w) (λ k. settled-row low high own at apart together w h (f + k / w) (k % w))
+module _ (g : Given) (own apart together : List ℤ) (f n : ℕ) (s : Settleable g own apart together f n) where
+  abbrev wide : ℕ
+  wide = g .width
 
-  module _ (r : ℕ) (from : f ≤ r) (to : r < n) {m : List ℤ} (is : m ≡ settled-to r) where
-    -- they end where row r begins
-    before-row : at + f * w + (r - f) * w ≡ at + r * w
+  module _ (r : ℕ) (from : f ≤ r) (to : r < n) {m : List ℤ} (is : m ≡ with-settled g own apart together f r) where
+    -- the rows below r end where row r begins
+    before-row : row-at g f + (r - f) * wide ≡ row-at g r
     before-row = omega (arith, rows)
       where
-        rows : f * w + (r - f) * w ≡ r * w
-        rows = sym (add-mul f (r - f) w) ∙ ap (λ (i : ℕ). i * w) whole
+        rows : f * wide + (r - f) * wide ≡ r * wide
+        rows = sym (add-mul f (r - f) wide) ∙ ap (λ (i : ℕ). i * wide) whole
           where
             whole : f + (r - f) ≡ r
             whole = omega arith
 
-    room : at + r * w + w ≤ length own
+    room : row-at g r + wide ≤ length own
     room = s .rows r from to .inside
 
-    untouched : (k : ℕ) → value m (at + r * w + k) ≡ value own (at + r * w + k)
-    untouched k = ap (λ (x : List ℤ). value x (at + r * w + k)) is ∙ overwrite-after own (at + f * w) ((r - f) * w) _ (at + r * w + k) (pos 0) (omega (arith, before-row, room)) (omega (arith, before-row))
+    untouched : (k : ℕ) → value m (row-at g r + k) ≡ value own (row-at g r + k)
+    untouched k = ap (λ (x : List ℤ). value x (row-at g r + k)) is ∙ overwrite-after own (row-at g f) ((r - f) * wide) _ (row-at g r + k) (pos 0) (omega (arith, before-row, room)) (omega (arith, before-row))
 
     long : length m ≡ length own
-    long = ap length is ∙ length-overwrite own (at + f * w) ((r - f) * w) _ (omega (arith, before-row, room))
+    long = ap length is ∙ length-overwrite own (row-at g f) ((r - f) * wide) _ (omega (arith, before-row, room))
 
-    pub row-to-settle : Run 131070 m (at + r * w) w
+    pub row-to-settle : Run 131070 m (row-at g r) wide
     row-to-settle = record { inside = omega (arith, long, room); small = λ k i. subst (λ (z : ℤ). natAbs z ≤ 131070) (sym (untouched k)) (s .rows r from to .small k i) }
 
-    module _ {a b d e : ℕ} (is-a : a ≡ slot-of 5 w h (pos r -ℤ pos 2)) (is-b : b ≡ slot-of 5 w h (pos r -ℤ pos 1)) (is-d : d ≡ slot-of 5 w h (pos r +ℤ pos 1)) (is-e : e ≡ slot-of 5 w h (pos r +ℤ pos 2)) where
-      pub rings-to-settle : Crossing 134217728 apart together a b (slot 5 w r) d e w
-      rings-to-settle = subst (λ (i : ℕ × ℕ × ℕ × ℕ). Crossing 134217728 apart together (i .0) (i .1) (slot 5 w r) (i .2) (i .3) w) (sym (λ j. (is-a j, is-b j, is-d j, is-e j))) (s .rings r from to)
+    -- from the slots that code found, with the clip's ends as the machine reads them
+    module _ {five : Five} (is-five : five ≡ five-slots g r) where
+      pub rings-to-settle : Crossing 134217728 apart together five wide
+      rings-to-settle = subst (λ (v : Five). Crossing 134217728 apart together v wide) (sym is-five) (s .rings r from to)
 
-      pub row-settled : {out : List ℤ} → out ≡ overwrite m (at + r * w) w (λ k. settled low high (value m (at + r * w + k)) (crossed apart together a b (slot 5 w r) d e k)) → out ≡ settled-to (r + 1)
-      row-settled {out} q =
-          overwrite-row own (at + f * w) w (r - f) (λ i c. settled-row low high own at apart together w h (f + i) c) _ (at + r * w) q (sym before-row) (omega (arith, before-row, room)) is same
-          ∙ ap (λ (i : ℕ). overwrite own (at + f * w) (i * w) (λ k. settled-row low high own at apart together w h (f + k / w) (k % w))) next
+      pub row-settled : {least most : ℤ} → least ≡ g .least → most ≡ g .most → {out : List ℤ} → out ≡ overwrite m (row-at g r) wide (λ k. settled least most (value m (row-at g r + k)) (crossed apart together five k))
+          → out ≡ with-settled g own apart together f (r + 1)
+      row-settled {least} {most} is-least is-most q =
+          overwrite-row own (row-at g f) wide (r - f) (λ i c. settled-row g own apart together (f + i) c) _ (row-at g r) q (sym before-row) (omega (arith, before-row, room)) is same
+          ∙ ap (λ (i : ℕ). overwrite own (row-at g f) (i * wide) (λ k. settled-row g own apart together (f + k / wide) (k % wide))) next
         where
           next : r - f + 1 ≡ r + 1 - f
           next = omega arith
@@ -159,8 +165,10 @@ module _ (low high : ℤ) (own : List ℤ) (at : ℕ) (apart together : List ℤ
           here : r ≡ f + (r - f)
           here = omega arith
 
-          same : (j : ℕ) → j < w → settled low high (value m (at + r * w + j)) (crossed apart together a b (slot 5 w r) d e j) ≡ settled-row low high own at apart together w h (f + (r - f)) j
-          same j i = (λ k. settled low high ((untouched j ∙ ap (value own) place) k) (crossed apart together (is-a k) (is-b k) (slot 5 w r) (is-d k) (is-e k) j)) ∙ unfold settled-row own-plane ring-sum in ap (λ (i : ℕ). settled-row low high own at apart together w h i j) here
+          same : (j : ℕ) → j < wide → settled least most (value m (row-at g r + j)) (crossed apart together five j) ≡ settled-row g own apart together (f + (r - f)) j
+          same j i =
+              (λ k. settled (is-least k) (is-most k) ((untouched j ∙ ap (value own) place) k) (crossed apart together (is-five k) j))
+              ∙ unfold settled-row own-plane in ap (λ (i : ℕ). settled-row g own apart together i j) here
             where
-              place : at + r * w + j ≡ at + (r * w + j)
+              place : row-at g r + j ≡ g .at + (r * wide + j)
               place = omega arith

@@ -6,29 +6,27 @@ use native.Mathlib.Decide.{decLt}
 use native.Mathlib.Nat.{mod-lt, mul-comm, add-mul, suc-mul, zero-mul, mul-le-mul-right, div-add-mod', div-lt-iff-lt-mul, le-trans}
 use native.Mathlib.Omega.{arith}
 use lib.Arith.{digits-div, digits-mod}
-use lib.Dec.{T}
 use lib.IntN.{ℤ, pos, natAbs, _+ℤ_, _-ℤ_, _*ℤ_}
 use lib.ListN.{length, getD}
-use lib.Signed.{nonNeg}
-use Rattle.integers.specs.Numbers.{rounded, clamp}
 use Rattle.integers.specs.Lists.{overwrite}
 use Rattle.integers.proofs.Lists.{length-overwrite, overwrite-in, overwrite-after, overwrite-cong, overwrite-append, overwrite-none}
 use Rattle.border.specs.Border.{reflect}
 use Rattle.border.proofs.Reflection.{reflect-lt, reflect-inside, reflect-before, reflect-after}
 use Rattle.turns.proofs.Frames.{row-room, place-inside, row-inside, column-inside}
-use Rattle.filters.specs.Bank.{Taps, weighted, tap, along, along-columns, low-split, high-split, high-join}
+use Rattle.filters.specs.Bank.{Taps, rescaled, weighted, tap, along, along-columns, low-split, high-split, high-join}
 use Rattle.filters.proofs.Taps.{weighted-three}
 use Rattle.filters.proofs.Ranges.{gain, along-range}
 use Rattle.turns.specs.Filling.{InRow}
 use Rattle.lines.specs.Lines.{value, Run, three}
 use Rattle.lines.proofs.Lines.{outside}
 use Rattle.projection.specs.Projection.{projected}
-use Rattle.projection.specs.Fast.{difference, crossed-along, apart-row, together-row}
+use Rattle.projection.specs.Fast.{difference, crossed-along}
 use Rattle.projection.proofs.Projection.{held-sum-fast}
 use Rattle.projection.proofs.Parts.{low-line, high-line, apart-plane, together-plane, apart-range, together-range, apart-inside, together-inside, crossed-parts}
 use Rattle.details.specs.Details.{difference-line, guide-value, crossed, settled}
-use Rattle.sweep.specs.Planes.{own-plane, guide-plane, reach, Projectable}
-use Rattle.sweep.specs.Rows.{slot, ring-line, RingRows, ring-sum, settled-row, Settleable}
+use Rattle.sweep.specs.declared.Given.{Given}
+use Rattle.sweep.specs.Planes.{own-plane, guide-plane, reach, Sized, Projectable, with-projected}
+use Rattle.sweep.specs.Rows.{slot, row-at, guide-at, difference-row, ring-line, RingRows, ring-apart, ring-together, settled-row, with-settled, Settleable}
 use Rattle.sweep.proofs.Rows.{slot-room, four}
 
 -- ---- rings
@@ -80,10 +78,22 @@ ring-laid n w some l room f lo hi r q g {l'} e at lo' hi' near from to old = rec
             same = omega arith
 
 -- ---- the planes of a projection
-module _ (limit low high : ℤ) (own : List ℤ) (at : ℕ) (guide : List ℕ) (from down across w h : ℕ) where
+module _ (g : Given) (own : List ℤ) (guide : List ℕ) where
+  abbrev at : ℕ
+  at = g .at
+
+  abbrev w : ℕ
+  w = g .width
+
+  abbrev h : ℕ
+  h = g .height
+
+  abbrev limit : ℤ
+  limit = g .limit
+
   -- the differences, the joined parts, and what they settle
   abbrev D : ℕ → ℕ → ℤ
-  D = difference (own-plane own at w) (guide-plane guide from down across)
+  D = difference (own-plane g own) (guide-plane g guide)
 
   abbrev A : ℕ → ℕ → ℤ
   A = apart-plane limit w h D
@@ -92,7 +102,7 @@ module _ (limit low high : ℤ) (own : List ℤ) (at : ℕ) (guide : List ℕ) (
   B = together-plane limit w h D
 
   unfoldable pub settled-plane : ℕ → ℕ → ℤ
-  settled-plane r c = settled low high (own-plane own at w r c) (crossed-along h (λ i. A i c) (λ i. B i c) r)
+  settled-plane r c = settled (g .least) (g .most) (own-plane g own r c) (crossed-along h (λ i. A i c) (λ i. B i c) r)
 
   -- n rows of it, laid down in the list
   abbrev pub with-rows : ℕ → List ℤ
@@ -105,7 +115,7 @@ module _ (limit low high : ℤ) (own : List ℤ) (at : ℕ) (guide : List ℕ) (
     pub aparts : Ring 5 w apart A (r - 4) r
     pub togethers : Ring 5 w together B (r - 4) r
 
-  module _ (p : Projectable own at guide from down across w h) where
+  module _ (p : Projectable g own guide) where
     area : (r : ℕ) → r < h → at + (r * w + w) ≤ length own
     area r i = omega (arith, p .inside, row-room w h r i)
 
@@ -117,27 +127,27 @@ module _ (limit low high : ℤ) (own : List ℤ) (at : ℕ) (guide : List ℕ) (
       pub long : length now ≡ length own
       long = ap length is ∙ length-overwrite own at (n * w) _ (rows-area n le)
 
-      untouched : (r c : ℕ) → n ≤ r → r < h → value now (at + r * w + c) ≡ value own (at + (r * w + c))
+      untouched : (r c : ℕ) → n ≤ r → r < h → value now (row-at g r + c) ≡ value own (at + (r * w + c))
       untouched r c i j =
-          ap (λ (x : List ℤ). value x (at + r * w + c)) is ∙ overwrite-after own at (n * w) _ (at + r * w + c) (pos 0) (rows-area n le) (omega (arith, mul-le-mul-right w i))
+          ap (λ (x : List ℤ). value x (row-at g r + c)) is ∙ overwrite-after own at (n * w) _ (row-at g r + c) (pos 0) (rows-area n le) (omega (arith, mul-le-mul-right w i))
           ∙ ap (value own) place
         where
-          place : at + r * w + c ≡ at + (r * w + c)
+          place : row-at g r + c ≡ at + (r * w + c)
           place = omega arith
 
-      pub own-row : (r : ℕ) → n ≤ r → r < h → Run reach now (at + r * w) w
+      pub own-row : (r : ℕ) → n ≤ r → r < h → Run reach now (row-at g r) w
       own-row r i j = record {
         inside = omega (arith, long, area r j);
         small = λ c k. subst (λ (z : ℤ). natAbs z ≤ reach) (sym (untouched r c i j)) (p .small (r * w + c) (place-inside j k));
       }
 
-      pub guide-row : (r : ℕ) → r < h → InRow guide w (from + r * down) across
+      pub guide-row : (r : ℕ) → r < h → InRow guide w (guide-at g r) (g .across)
       guide-row r j = record { inside = λ c k. p .guide-inside r c j k }
 
       -- so its differences are the plane's
-      pub difference-at : (r : ℕ) → n ≤ r → r < h → (c : ℕ) → c < w → difference-line now (at + r * w) guide (from + r * down) across c ≡ D r c
+      pub difference-at : (r : ℕ) → n ≤ r → r < h → (c : ℕ) → c < w → difference-row g now guide r c ≡ D r c
       unfolding difference-line guide-value difference own-plane guide-plane
-      difference-at r i j c k = ap (λ z. z -ℤ pos (getD guide (from + r * down + c * across) 0)) (untouched r c i j)
+      difference-at r i j c k = ap (λ z. z -ℤ pos (getD guide (guide-at g r + c * g .across) 0)) (untouched r c i j)
 
     -- ---- how large the rows are
     difference-small : (r c : ℕ) → r < h → c < w → natAbs (D r c) ≤ reach
@@ -146,238 +156,235 @@ module _ (limit low high : ℤ) (own : List ℤ) (at : ℕ) (guide : List ℕ) (
 
     line-small : (t : Taps) → gain t ≤ 4 → (r c : ℕ) → c < w → natAbs (along-columns t 1 h D r c) ≤ 524280
     unfolding along-columns
-    line-small t g r c j = le-trans (along-range t 1 h reach (λ i. D i c) (p .height-from) (λ i k. difference-small i c k j) r) (omega (arith, mul-le-mul-right 131070 g))
+    line-small t g r c j = le-trans (along-range t 1 h reach (λ i. D i c) (p .size .height-from) (λ i k. difference-small i c k j) r) (omega (arith, mul-le-mul-right 131070 g))
 
-    module _ (sign : T (nonNeg limit)) where
-      apart-small : (r c : ℕ) → natAbs (A r c) ≤ 75496320
-      apart-small r c = apart-range limit sign w 524280 (p .width-from) (low-line limit w h D r) (high-line limit w h D r) (λ k j. line-small low-split (four .0) r k j) (λ k j. line-small high-split (four .1) r k j) c
+    apart-small : (r c : ℕ) → natAbs (A r c) ≤ 75496320
+    apart-small r c = apart-range limit (p .limit .sign) w 524280 (p .size .width-from) (low-line limit w h D r) (high-line limit w h D r) (λ k j. line-small low-split (four .0) r k j) (λ k j. line-small high-split (four .1) r k j) c
 
-      together-small : (r c : ℕ) → natAbs (B r c) ≤ 75496320
-      together-small r c = together-range limit sign w 524280 (p .width-from) (low-line limit w h D r) (high-line limit w h D r) (λ k j. line-small low-split (four .0) r k j) (λ k j. line-small high-split (four .1) r k j) c
+    together-small : (r c : ℕ) → natAbs (B r c) ≤ 75496320
+    together-small r c = together-range limit (p .limit .sign) w 524280 (p .size .width-from) (low-line limit w h D r) (high-line limit w h D r) (λ k j. line-small low-split (four .0) r k j) (λ k j. line-small high-split (four .1) r k j) c
 
-      -- ---- the ring of differences
-      whole : own ≡ with-rows (0 - 2)
-      whole = overwrite-none own at _ ∙ ap (λ (n : ℕ). overwrite own at n (λ k. settled-plane (k / w) (k % w))) (sym (zero-mul w))
+    -- ---- the ring of differences
+    whole : own ≡ with-rows (0 - 2)
+    whole = overwrite-none own at _ ∙ ap (λ (n : ℕ). overwrite own at n (λ k. settled-plane (k / w) (k % w))) (sym (zero-mul w))
 
-      pub first-rows : Run reach own (at + 0 * w) w × InRow guide w (from + 0 * down) across
-      first-rows = (own-row (omega arith) whole 0 (omega arith) (p .height-from), guide-row (omega arith) whole 0 (p .height-from))
+    pub first-rows : Run reach own (row-at g 0) w × InRow guide w (guide-at g 0) (g .across)
+    first-rows = (own-row (omega arith) whole 0 (omega arith) (p .size .height-from), guide-row (omega arith) whole 0 (p .size .height-from))
 
-      -- with row 0
-      pub start : (ring apart together : List ℤ) → 3 * w ≤ length ring → {laid : List ℤ} → laid ≡ overwrite ring (slot 3 w 0) w (difference-line own (at + 0 * w) guide (from + 0 * down) across) → Swept own laid apart together 0
-      start ring apart together room e = record {
-        plane = whole;
-        differences = ring-laid 3 w (omega arith) ring room D 0 0 (record { holds = λ q c i j. absurd (omega arith) }) 0 _ e (λ c k. difference-at (omega arith) whole 0 (omega arith) (p .height-from) c k) 0 (min 1 h) (omega arith) (omega arith) (omega (arith, p .height-from)) (λ q i j d. absurd (d (omega arith)));
-        aparts = record { holds = λ q c i j. absurd (omega arith) };
-        togethers = record { holds = λ q c i j. absurd (omega arith) };
+    -- with row 0
+    pub start : (ring apart together : List ℤ) → 3 * w ≤ length ring → {laid : List ℤ} → laid ≡ overwrite ring (slot 3 w 0) w (difference-row g own guide 0) → Swept own laid apart together 0
+    start ring apart together room e = record {
+      plane = whole;
+      differences = ring-laid 3 w (omega arith) ring room D 0 0 (record { holds = λ q c i j. absurd (omega arith) }) 0 _ e (λ c k. difference-at (omega arith) whole 0 (omega arith) (p .size .height-from) c k) 0 (min 1 h) (omega arith) (omega arith) (omega (arith, p .size .height-from)) (λ q i j d. absurd (d (omega arith)));
+      aparts = record { holds = λ q c i j. absurd (omega arith) };
+      togethers = record { holds = λ q c i j. absurd (omega arith) };
+    }
+
+    -- ---- rows that are settled from the rings
+    module _ {now apart together : List ℤ} {lo hi f n : ℕ} (room-a : 5 * w ≤ length apart) (room-b : 5 * w ≤ length together) (aparts : Ring 5 w apart A lo hi) (togethers : Ring 5 w together B lo hi)
+        (le : f ≤ n) (to : n ≤ h) (is : now ≡ with-rows f) (inside : (q : ℕ) → f ≤ q → q < n → (lo ≤ q - 2) × (min (q + 3) h ≤ hi)) where
+      -- the rows that a row needs
+      module _ (r : ℕ) (i : f ≤ r) (j : r < n) where
+        within : (q : ℕ) → r ≤ q + 2 → q ≤ r + 2 → q < h → (lo ≤ q) × (q < hi)
+        within q a b k = (omega (arith, inside r i j .0), omega (arith, inside r i j .1))
+
+        back-row : (k : ℕ) → k ≤ 2 → let q = reflect h (pos r -ℤ pos k) in (lo ≤ q) × (q < hi)
+        back-row k a = let q = reflect-before h r k (omega arith) in within (reflect h (pos r -ℤ pos k)) (omega (arith, q .0)) (omega (arith, q .1)) (reflect-lt h (p .size .height-from) (pos r -ℤ pos k))
+
+        ahead-row : (k : ℕ) → k ≤ 2 → let q = reflect h (pos r +ℤ pos k) in (lo ≤ q) × (q < hi)
+        ahead-row k a = let q = reflect-after h r k (omega arith) in within (reflect h (pos r +ℤ pos k)) (omega (arith, q .0)) (omega (arith, q .1)) (reflect-lt h (p .size .height-from) (pos r +ℤ pos k))
+
+        own-in : (lo ≤ r) × (r < hi)
+        own-in = within r (omega arith) (omega arith) (omega arith)
+
+      ring-run : (l : List ℤ) (F : ℕ → ℕ → ℤ) → 5 * w ≤ length l → Ring 5 w l F lo hi → ((q c : ℕ) → natAbs (F q c) ≤ 75496320) → (q : ℕ) → (lo ≤ q) × (q < hi) → Run 134217728 l (slot 5 w q) w
+      ring-run l F room ring small q b = record {
+        inside = omega (arith, slot-room 5 w q (omega arith));
+        small = λ c k. subst (λ (z : ℤ). natAbs z ≤ 134217728) (sym (ring .holds q c (b .0) (b .1) k)) (le-trans (small q c) (omega arith));
       }
 
-      -- ---- rows that are settled from the rings
-      module _ {now apart together : List ℤ} {lo hi f n : ℕ} (room-a : 5 * w ≤ length apart) (room-b : 5 * w ≤ length together) (aparts : Ring 5 w apart A lo hi) (togethers : Ring 5 w together B lo hi)
-          (le : f ≤ n) (to : n ≤ h) (is : now ≡ with-rows f) (inside : (q : ℕ) → f ≤ q → q < n → (lo ≤ q - 2) × (min (q + 3) h ≤ hi)) where
-        -- the rows that a row needs
-        module _ (r : ℕ) (i : f ≤ r) (j : r < n) where
-          within : (q : ℕ) → r ≤ q + 2 → q ≤ r + 2 → q < h → (lo ≤ q) × (q < hi)
-          within q a b k = (omega (arith, inside r i j .0), omega (arith, inside r i j .1))
+      a-run : (q : ℕ) → (lo ≤ q) × (q < hi) → Run 134217728 apart (slot 5 w q) w
+      a-run = ring-run apart A room-a aparts apart-small
 
-          back-row : (k : ℕ) → k ≤ 2 → let q = reflect h (pos r -ℤ pos k) in (lo ≤ q) × (q < hi)
-          back-row k a = let q = reflect-before h r k (omega arith) in within (reflect h (pos r -ℤ pos k)) (omega (arith, q .0)) (omega (arith, q .1)) (reflect-lt h (p .height-from) (pos r -ℤ pos k))
+      b-run : (q : ℕ) → (lo ≤ q) × (q < hi) → Run 134217728 together (slot 5 w q) w
+      b-run = ring-run together B room-b togethers together-small
 
-          ahead-row : (k : ℕ) → k ≤ 2 → let q = reflect h (pos r +ℤ pos k) in (lo ≤ q) × (q < hi)
-          ahead-row k a = let q = reflect-after h r k (omega arith) in within (reflect h (pos r +ℤ pos k)) (omega (arith, q .0)) (omega (arith, q .1)) (reflect-lt h (p .height-from) (pos r +ℤ pos k))
+      pub settleable : Settleable g now apart together f n
+      settleable = record {
+        size = p .size;
+        from = le;
+        to = to;
+        inside = omega (arith, long (omega arith) is, rows-area n to);
+        rows = λ r i j. own-row (omega arith) is r i (omega arith);
+        rings = λ r i j. record {
+          first = a-run _ (back-row r i j 2 (omega arith));
+          second = b-run _ (back-row r i j 1 (omega arith));
+          third = a-run r (own-in r i j);
+          fourth = b-run _ (ahead-row r i j 1 (omega arith));
+          fifth = a-run _ (ahead-row r i j 2 (omega arith));
+        };
+      }
 
-          own-in : (lo ≤ r) × (r < hi)
-          own-in = within r (omega arith) (omega arith) (omega arith)
+      settled-is : (r c : ℕ) → f ≤ r → r < n → c < w → settled-row g now apart together r c ≡ settled-plane r c
+      unfolding settled-row settled-plane own-plane crossed crossed-along
+      settled-is r c i j m = λ k.
+          settled (g .least) (g .most) ((ap (value now) place ∙ untouched (omega arith) is r c i (omega arith)) k)
+          (weighted high-join (aparts .holds _ c (back-row r i j 2 (omega arith) .0) (back-row r i j 2 (omega arith) .1) m k) (togethers .holds _ c (back-row r i j 1 (omega arith) .0) (back-row r i j 1 (omega arith) .1) m k)
+          ((aparts .holds r c (own-in r i j .0) (own-in r i j .1) m ∙ ap (λ (q : ℕ). A q c) (sym (reflect-inside h r (omega arith)))) k)
+          (togethers .holds _ c (ahead-row r i j 1 (omega arith) .0) (ahead-row r i j 1 (omega arith) .1) m k) (aparts .holds _ c (ahead-row r i j 2 (omega arith) .0) (ahead-row r i j 2 (omega arith) .1) m k))
+        where
+          place : at + (r * w + c) ≡ row-at g r + c
+          place = omega arith
 
-        ring-run : (l : List ℤ) (F : ℕ → ℕ → ℤ) → 5 * w ≤ length l → Ring 5 w l F lo hi → ((q c : ℕ) → natAbs (F q c) ≤ 75496320) → (q : ℕ) → (lo ≤ q) × (q < hi) → Run 134217728 l (slot 5 w q) w
-        ring-run l F room ring small q b = record {
-          inside = omega (arith, slot-room 5 w q (omega arith));
-          small = λ c k. subst (λ (z : ℤ). natAbs z ≤ 134217728) (sym (ring .holds q c (b .0) (b .1) k)) (le-trans (small q c) (omega arith));
-        }
+      pub rows-settled : {out : List ℤ} → out ≡ with-settled g now apart together f n → out ≡ with-rows n
+      rows-settled e =
+          e ∙ (λ j. overwrite (is j) (row-at g f) ((n - f) * w) G) ∙ overwrite-append own at (f * w) ((n - f) * w) F G (omega (arith, sum, rows-area n to)) same
+          ∙ ap (λ (z : ℕ). overwrite own at z F) sum
+        where
+          F : ℕ → ℤ
+          F k = settled-plane (k / w) (k % w)
 
-        a-run : (q : ℕ) → (lo ≤ q) × (q < hi) → Run 134217728 apart (slot 5 w q) w
-        a-run = ring-run apart A room-a aparts apart-small
+          G : ℕ → ℤ
+          G k = settled-row g now apart together (f + k / w) (k % w)
 
-        b-run : (q : ℕ) → (lo ≤ q) × (q < hi) → Run 134217728 together (slot 5 w q) w
-        b-run = ring-run together B room-b togethers together-small
+          whole : f + (n - f) ≡ n
+          whole = omega arith
 
-        pub settleable : Settleable now at apart together w h f n
-        settleable = record {
-          width-from = p .width-from;
-          width-to = p .width-to;
-          height-from = p .height-from;
-          height-to = p .height-to;
-          from = le;
-          to = to;
-          inside = omega (arith, long (omega arith) is, rows-area n to);
-          rows = λ r i j. own-row (omega arith) is r i (omega arith);
-          rings = λ r i j. record {
-            first = a-run _ (back-row r i j 2 (omega arith));
-            second = b-run _ (back-row r i j 1 (omega arith));
-            third = a-run r (own-in r i j);
-            fourth = b-run _ (ahead-row r i j 1 (omega arith));
-            fifth = a-run _ (ahead-row r i j 2 (omega arith));
-          };
-        }
+          sum : f * w + (n - f) * w ≡ n * w
+          sum = sym (add-mul f (n - f) w) ∙ ap (λ (i : ℕ). i * w) whole
 
-        settled-is : (r c : ℕ) → f ≤ r → r < n → c < w → settled-row low high now at apart together w h r c ≡ settled-plane r c
-        unfolding settled-row settled-plane own-plane ring-sum crossed crossed-along
-        settled-is r c i j m = λ k.
-            settled low high ((ap (value now) place ∙ untouched (omega arith) is r c i (omega arith)) k)
-            (weighted high-join (aparts .holds _ c (back-row r i j 2 (omega arith) .0) (back-row r i j 2 (omega arith) .1) m k) (togethers .holds _ c (back-row r i j 1 (omega arith) .0) (back-row r i j 1 (omega arith) .1) m k)
-            ((aparts .holds r c (own-in r i j .0) (own-in r i j .1) m ∙ ap (λ (q : ℕ). A q c) (sym (reflect-inside h r (omega arith)))) k)
-            (togethers .holds _ c (ahead-row r i j 1 (omega arith) .0) (ahead-row r i j 1 (omega arith) .1) m k) (aparts .holds _ c (ahead-row r i j 2 (omega arith) .0) (ahead-row r i j 2 (omega arith) .1) m k))
-          where
-            place : at + (r * w + c) ≡ at + r * w + c
-            place = omega arith
-
-        pub rows-settled : {out : List ℤ} → out ≡ overwrite now (at + f * w) ((n - f) * w) (λ k. settled-row low high now at apart together w h (f + k / w) (k % w)) → out ≡ with-rows n
-        rows-settled e =
-            e ∙ (λ j. overwrite (is j) (at + f * w) ((n - f) * w) G) ∙ overwrite-append own at (f * w) ((n - f) * w) F G (omega (arith, sum, rows-area n to)) same
-            ∙ ap (λ (z : ℕ). overwrite own at z F) sum
-          where
-            F : ℕ → ℤ
-            F k = settled-plane (k / w) (k % w)
-
-            G : ℕ → ℤ
-            G k = settled-row low high now at apart together w h (f + k / w) (k % w)
-
-            whole : f + (n - f) ≡ n
-            whole = omega arith
-
-            sum : f * w + (n - f) * w ≡ n * w
-            sum = sym (add-mul f (n - f) w) ∙ ap (λ (i : ℕ). i * w) whole
-
-            same : (k : ℕ) → k < (n - f) * w → G k ≡ F (f * w + k)
-            same k b = settled-is (f + k / w) (k % w) (omega arith) (omega (arith, row)) column ∙ sym (λ j. settled-plane (split .0 j) (split .1 j))
-              where
-                row : k / w < n - f
-                row = div-lt-iff-lt-mul (p .width-from) .1 b
-
-                column : k % w < w
-                column = mod-lt k (p .width-from)
-
-                here : f * w + k ≡ (f + k / w) * w + k % w
-                here = omega (arith, add-mul f (k / w) w, div-add-mod' k w)
-
-                split : ((f * w + k) / w ≡ f + k / w) × ((f * w + k) % w ≡ k % w)
-                split = (ap (λ (x : ℕ). x / w) here ∙ digits-div (f + k / w) column, ap (λ (x : ℕ). x % w) here ∙ digits-mod (f + k / w) column)
-
-      module _ {now ring apart together : List ℤ} {r : ℕ} (s : Swept now ring apart together r) (i : r < h) where
-        -- the row after r, or the one that it means
-        abbrev next : ℕ
-        next = reflect h (pos (r + 1))
-
-        next-near : (r ≤ next + 1) × (next ≤ r + 1) × (next < h)
-        next-near = let q = reflect-after h r 1 i in (q .0, q .1, reflect-lt h (p .height-from) (pos (r + 1)))
-
-        -- code's number x of that row
-        module _ {x : ℕ} (is-x : x ≡ next) where
-          pub next-rows : Run reach now (at + x * w) w × InRow guide w (from + x * down) across
-          next-rows =
-              subst (λ (q : ℕ). Run reach now (at + q * w) w × InRow guide w (from + q * down) across) (sym is-x)
-              (own-row (omega arith) (s .plane) next (omega (arith, next-near .0)) (next-near .2), guide-row (omega arith) (s .plane) next (next-near .2))
-
-        module _ (room : 3 * w ≤ length ring) {x : ℕ} (is-x : x ≡ next) {ring' : List ℤ} (laid : ring' ≡ overwrite ring (slot 3 w x) w (difference-line now (at + x * w) guide (from + x * down) across)) where
-          e : ring' ≡ overwrite ring (slot 3 w next) w (difference-line now (at + next * w) guide (from + next * down) across)
-          e = laid ∙ (λ j. overwrite ring (slot 3 w (is-x j)) w (difference-line now (at + is-x j * w) guide (from + is-x j * down) across))
-
-          next-ring : Ring 3 w ring' D (r - 1) (min (r + 2) h)
-          next-ring =
-              ring-laid 3 w (omega arith) ring room D (r - 1) (min (r + 1) h) (s .differences) next _ e (difference-at (omega arith) (s .plane) next (omega (arith, next-near .0)) (next-near .2)) (r - 1) (min (r + 2) h)
-              (omega arith) (omega (arith, next-near .0)) (omega (arith, next-near .1, next-near .2)) old
+          same : (k : ℕ) → k < (n - f) * w → G k ≡ F (f * w + k)
+          same k b = settled-is (f + k / w) (k % w) (omega arith) (omega (arith, row)) column ∙ sym (λ j. settled-plane (split .0 j) (split .1 j))
             where
-              old : (q : ℕ) → r - 1 ≤ q → q < min (r + 2) h → (q ≡ next → ⊥) → (r - 1 ≤ q) × (q < min (r + 1) h)
-              old q j k d = (j, go (decLt q (r + 1)))
-                where
-                  go : Dec (q < r + 1) → q < min (r + 1) h
-                  go (yes b) = omega arith
-                  go (no b) = absurd (d (sym (reflect-inside h (r + 1) (omega arith) ∙ omega arith)))
+              row : k / w < n - f
+              row = div-lt-iff-lt-mul (p .size .width-from) .1 b
 
-          -- a row near r
-          near-row : (q : ℕ) → r ≤ q + 1 → q ≤ r + 1 → q < h → (c : ℕ) → c < w → value ring' (slot 3 w q + c) ≡ D q c
-          near-row q j k b c m = next-ring .holds q c (omega arith) (omega arith) m
+              column : k % w < w
+              column = mod-lt k (p .size .width-from)
 
-          long-ring : length ring' ≡ length ring
-          long-ring = ap length e ∙ length-overwrite ring (slot 3 w next) w _ (omega (arith, slot-room 3 w next (omega arith)))
+              here : f * w + k ≡ (f + k / w) * w + k % w
+              here = omega (arith, add-mul f (k / w) w, div-add-mod' k w)
 
-          near-run : (q : ℕ) → r ≤ q + 1 → q ≤ r + 1 → q < h → Run reach ring' (slot 3 w q) w
-          near-run q j k b = record {
-            inside = omega (arith, long-ring, slot-room 3 w q (omega arith));
-            small = λ c m. subst (λ (z : ℤ). natAbs z ≤ reach) (sym (near-row q j k b c m)) (difference-small q c b m);
-          }
+              split : ((f * w + k) / w ≡ f + k / w) × ((f * w + k) % w ≡ k % w)
+              split = (ap (λ (x : ℕ). x / w) here ∙ digits-div (f + k / w) column, ap (λ (x : ℕ). x % w) here ∙ digits-mod (f + k / w) column)
 
-          abbrev before : ℕ
-          before = reflect h (pos r -ℤ pos 1)
+    module _ {now ring apart together : List ℤ} {r : ℕ} (s : Swept now ring apart together r) (i : r < h) where
+      -- the row after r, or the one that it means
+      abbrev next : ℕ
+      next = reflect h (pos (r + 1))
 
-          before-near : (r ≤ before + 1) × (before ≤ r + 1) × (before < h)
-          before-near = let q = reflect-before h r 1 i in (q .0, q .1, reflect-lt h (p .height-from) (pos r -ℤ pos 1))
+      next-near : (r ≤ next + 1) × (next ≤ r + 1) × (next < h)
+      next-near = let q = reflect-after h r 1 i in (q .0, q .1, reflect-lt h (p .size .height-from) (pos (r + 1)))
 
-          pub ring-rows : RingRows reach ring' w h r
-          ring-rows = record {
-            above = near-run before (before-near .0) (before-near .1) (before-near .2);
-            here = near-run r (omega arith) (omega arith) i;
-            below = near-run next (next-near .0) (next-near .1) (next-near .2);
-          }
+      -- code's number x of that row
+      module _ {x : ℕ} (is-x : x ≡ next) where
+        pub next-rows : Run reach now (row-at g x) w × InRow guide w (guide-at g x) (g .across)
+        next-rows =
+            subst (λ (q : ℕ). Run reach now (row-at g q) w × InRow guide w (guide-at g q) (g .across)) (sym is-x)
+            (own-row (omega arith) (s .plane) next (omega (arith, next-near .0)) (next-near .2), guide-row (omega arith) (s .plane) next (next-near .2))
 
-          -- ---- the rings of joined parts, with row r
-          -- the lines along the columns
-          line-is : (t : Taps) → t .far ≡ pos 0 → (c : ℕ) → c < w → ring-line t ring' w h r c ≡ along-columns t 1 h D r c
-          unfolding ring-line three along-columns along tap
-          line-is t z c m =
-              (λ j. weighted t (pos 0) (near-row before (before-near .0) (before-near .1) (before-near .2) c m j) ((near-row r (omega arith) (omega arith) i c m ∙ ap (λ (q : ℕ). D q c) (sym (reflect-inside h r i))) j) (near-row next (next-near .0) (next-near .1) (next-near .2) c m j) (pos 0))
-              ∙ weighted-three t z _ _ _ _ _
+      module _ (room : 3 * w ≤ length ring) {x : ℕ} (is-x : x ≡ next) {ring' : List ℤ} (laid : ring' ≡ overwrite ring (slot 3 w x) w (difference-row g now guide x)) where
+        e : ring' ≡ overwrite ring (slot 3 w next) w (difference-row g now guide next)
+        e = laid ∙ (λ j. overwrite ring (slot 3 w (is-x j)) w (difference-row g now guide (is-x j)))
 
-          apart-is : (c : ℕ) → c < w → apart-row limit w (ring-line low-split ring' w h r) (ring-line high-split ring' w h r) c ≡ A r c
-          apart-is c m = apart-inside limit w (p .width-from) _ _ _ _ (line-is low-split (unfold low-split in refl)) (line-is high-split (unfold high-split in refl)) c
+        next-ring : Ring 3 w ring' D (r - 1) (min (r + 2) h)
+        next-ring =
+            ring-laid 3 w (omega arith) ring room D (r - 1) (min (r + 1) h) (s .differences) next _ e (difference-at (omega arith) (s .plane) next (omega (arith, next-near .0)) (next-near .2)) (r - 1) (min (r + 2) h)
+            (omega arith) (omega (arith, next-near .0)) (omega (arith, next-near .1, next-near .2)) old
+          where
+            old : (q : ℕ) → r - 1 ≤ q → q < min (r + 2) h → (q ≡ next → ⊥) → (r - 1 ≤ q) × (q < min (r + 1) h)
+            old q j k d = (j, go (decLt q (r + 1)))
+              where
+                go : Dec (q < r + 1) → q < min (r + 1) h
+                go (yes b) = omega arith
+                go (no b) = absurd (d (sym (reflect-inside h (r + 1) (omega arith) ∙ omega arith)))
 
-          together-is : (c : ℕ) → c < w → together-row limit w (ring-line low-split ring' w h r) (ring-line high-split ring' w h r) c ≡ B r c
-          together-is c m = together-inside limit w (p .width-from) _ _ _ _ (line-is low-split (unfold low-split in refl)) (line-is high-split (unfold high-split in refl)) c
+        -- a row near r
+        near-row : (q : ℕ) → r ≤ q + 1 → q ≤ r + 1 → q < h → (c : ℕ) → c < w → value ring' (slot 3 w q + c) ≡ D q c
+        near-row q j k b c m = next-ring .holds q c (omega arith) (omega arith) m
 
-          parts-ring : (f : ℕ → ℕ → ℤ) (g : ℕ → ℤ) → ((c : ℕ) → c < w → g c ≡ f r c) → (l : List ℤ) → 5 * w ≤ length l → Ring 5 w l f (r - 4) r → {l' : List ℤ} → l' ≡ overwrite l (slot 5 w r) w g → Ring 5 w l' f (r - 4) (r + 1)
-          parts-ring f g is l fit old laid = ring-laid 5 w (omega arith) l fit f (r - 4) r old r g laid is (r - 4) (r + 1) (omega arith) (omega arith) (omega arith) (λ q j k d. (j, omega arith))
+        long-ring : length ring' ≡ length ring
+        long-ring = ap length e ∙ length-overwrite ring (slot 3 w next) w _ (omega (arith, slot-room 3 w next (omega arith)))
 
-          module _ (room-a : 5 * w ≤ length apart) (room-b : 5 * w ≤ length together) {apart' together' : List ℤ}
-              (is-a : apart' ≡ overwrite apart (slot 5 w r) w (apart-row limit w (ring-line low-split ring' w h r) (ring-line high-split ring' w h r)))
-              (is-b : together' ≡ overwrite together (slot 5 w r) w (together-row limit w (ring-line low-split ring' w h r) (ring-line high-split ring' w h r))) where
-            apart-ring : Ring 5 w apart' A (r - 4) (r + 1)
-            apart-ring = parts-ring A _ apart-is apart room-a (s .aparts) is-a
+        near-run : (q : ℕ) → r ≤ q + 1 → q ≤ r + 1 → q < h → Run reach ring' (slot 3 w q) w
+        near-run q j k b = record {
+          inside = omega (arith, long-ring, slot-room 3 w q (omega arith));
+          small = λ c m. subst (λ (z : ℤ). natAbs z ≤ reach) (sym (near-row q j k b c m)) (difference-small q c b m);
+        }
 
-            together-ring : Ring 5 w together' B (r - 4) (r + 1)
-            together-ring = parts-ring B _ together-is together room-b (s .togethers) is-b
+        abbrev before : ℕ
+        before = reflect h (pos r -ℤ pos 1)
 
-            room-a' : 5 * w ≤ length apart'
-            room-a' = omega (arith, ap length is-a ∙ length-overwrite apart (slot 5 w r) w _ (omega (arith, slot-room 5 w r (omega arith))))
+        before-near : (r ≤ before + 1) × (before ≤ r + 1) × (before < h)
+        before-near = let q = reflect-before h r 1 i in (q .0, q .1, reflect-lt h (p .size .height-from) (pos r -ℤ pos 1))
 
-            room-b' : 5 * w ≤ length together'
-            room-b' = omega (arith, ap length is-b ∙ length-overwrite together (slot 5 w r) w _ (omega (arith, slot-room 5 w r (omega arith))))
+        pub ring-rows : RingRows g ring' r
+        ring-rows = record {
+          above = near-run before (before-near .0) (before-near .1) (before-near .2);
+          here = near-run r (omega arith) (omega arith) i;
+          below = near-run next (next-near .0) (next-near .1) (next-near .2);
+        }
 
-            -- ---- the turn that settles the rows from f on and below n
-            module _ {f n : ℕ} (is-f : f ≡ r - 2) (is-n : n ≡ r + 1 - 2) where
-              from-row : now ≡ with-rows f
-              from-row = s .plane ∙ ap with-rows (sym is-f)
+        -- ---- the rings of joined parts, with row r
+        -- the lines along the columns
+        line-is : (t : Taps) → t .far ≡ pos 0 → (c : ℕ) → c < w → ring-line t g ring' r c ≡ along-columns t 1 h D r c
+        unfolding ring-line three along-columns along tap
+        line-is t z c m =
+            (λ j. weighted t (pos 0) (near-row before (before-near .0) (before-near .1) (before-near .2) c m j) ((near-row r (omega arith) (omega arith) i c m ∙ ap (λ (q : ℕ). D q c) (sym (reflect-inside h r i))) j) (near-row next (next-near .0) (next-near .1) (next-near .2) c m j) (pos 0))
+            ∙ weighted-three t z _ _ _ _ _
 
-              in-rings : (q : ℕ) → f ≤ q → q < n → (r - 4 ≤ q - 2) × (min (q + 3) h ≤ r + 1)
-              in-rings q j k = (omega arith, omega arith)
+        apart-is : (c : ℕ) → c < w → ring-apart g ring' r c ≡ A r c
+        apart-is c m = apart-inside limit w (p .size .width-from) _ _ _ _ (line-is low-split (unfold low-split in refl)) (line-is high-split (unfold high-split in refl)) c
 
-              pub settleable-next : Settleable now at apart' together' w h f n
-              settleable-next = settleable room-a' room-b' apart-ring together-ring (omega arith) (omega arith) from-row in-rings
+        together-is : (c : ℕ) → c < w → ring-together g ring' r c ≡ B r c
+        together-is c m = together-inside limit w (p .size .width-from) _ _ _ _ (line-is low-split (unfold low-split in refl)) (line-is high-split (unfold high-split in refl)) c
 
-              pub swept-next : {out : List ℤ} → out ≡ overwrite now (at + f * w) ((n - f) * w) (λ k. settled-row low high now at apart' together' w h (f + k / w) (k % w)) → Swept out ring' apart' together' (r + 1)
-              swept-next laid-rows = record {
-                plane = rows-settled room-a' room-b' apart-ring together-ring (omega arith) (omega arith) from-row in-rings laid-rows ∙ ap with-rows is-n;
-                differences = ring-part (omega arith) (omega arith) next-ring;
-                aparts = ring-part (omega arith) (omega arith) apart-ring;
-                togethers = ring-part (omega arith) (omega arith) together-ring;
-              }
+        parts-ring : (f : ℕ → ℕ → ℤ) (g : ℕ → ℤ) → ((c : ℕ) → c < w → g c ≡ f r c) → (l : List ℤ) → 5 * w ≤ length l → Ring 5 w l f (r - 4) r → {l' : List ℤ} → l' ≡ overwrite l (slot 5 w r) w g → Ring 5 w l' f (r - 4) (r + 1)
+        parts-ring f g is l fit old laid = ring-laid 5 w (omega arith) l fit f (r - 4) r old r g laid is (r - 4) (r + 1) (omega arith) (omega arith) (omega arith) (λ q j k d. (j, omega arith))
+
+        module _ (room-a : 5 * w ≤ length apart) (room-b : 5 * w ≤ length together) {apart' together' : List ℤ}
+            (is-a : apart' ≡ overwrite apart (slot 5 w r) w (ring-apart g ring' r))
+            (is-b : together' ≡ overwrite together (slot 5 w r) w (ring-together g ring' r)) where
+          apart-ring : Ring 5 w apart' A (r - 4) (r + 1)
+          apart-ring = parts-ring A _ apart-is apart room-a (s .aparts) is-a
+
+          together-ring : Ring 5 w together' B (r - 4) (r + 1)
+          together-ring = parts-ring B _ together-is together room-b (s .togethers) is-b
+
+          room-a' : 5 * w ≤ length apart'
+          room-a' = omega (arith, ap length is-a ∙ length-overwrite apart (slot 5 w r) w _ (omega (arith, slot-room 5 w r (omega arith))))
+
+          room-b' : 5 * w ≤ length together'
+          room-b' = omega (arith, ap length is-b ∙ length-overwrite together (slot 5 w r) w _ (omega (arith, slot-room 5 w r (omega arith))))
+
+          -- ---- the turn that settles the rows from f on and below n
+          module _ {f n : ℕ} (is-f : f ≡ r - 2) (is-n : n ≡ r + 1 - 2) where
+            from-row : now ≡ with-rows f
+            from-row = s .plane ∙ ap with-rows (sym is-f)
+
+            in-rings : (q : ℕ) → f ≤ q → q < n → (r - 4 ≤ q - 2) × (min (q + 3) h ≤ r + 1)
+            in-rings q j k = (omega arith, omega arith)
+
+            pub settleable-next : Settleable g now apart' together' f n
+            settleable-next = settleable room-a' room-b' apart-ring together-ring (omega arith) (omega arith) from-row in-rings
+
+            pub swept-next : {out : List ℤ} → out ≡ with-settled g now apart' together' f n → Swept out ring' apart' together' (r + 1)
+            swept-next laid-rows = record {
+              plane = rows-settled room-a' room-b' apart-ring together-ring (omega arith) (omega arith) from-row in-rings laid-rows ∙ ap with-rows is-n;
+              differences = ring-part (omega arith) (omega arith) next-ring;
+              aparts = ring-part (omega arith) (omega arith) apart-ring;
+              togethers = ring-part (omega arith) (omega arith) together-ring;
+            }
 
   -- ---- the settled plane is the projected plane
-  pub settled-projected : 1 ≤ w → 1 ≤ h → (r c : ℕ) → r < h → c < w → settled-plane r c ≡ projected limit low high w h (guide-plane guide from down across) (own-plane own at w) r c
+  pub settled-projected : Sized g → (r c : ℕ) → r < h → c < w → settled-plane r c ≡ projected limit (g .least) (g .most) w h (guide-plane g guide) (own-plane g own) r c
   unfolding settled-plane settled projected
-  settled-projected wide tall r c i j =
-      ap (λ z. clamp low high (rounded 1024 z))
-      (ap (λ z. pos 1024 *ℤ own-plane own at w r c -ℤ z) (crossed-parts limit w h D r c) ∙ sym (held-sum-fast w h wide tall limit 1 (guide-plane guide from down across) (own-plane own at w) r c i j))
+  settled-projected size r c i j =
+      ap (rescaled 1024 (g .least) (g .most))
+      (ap (λ z. pos 1024 *ℤ own-plane g own r c -ℤ z) (crossed-parts limit w h D r c) ∙ sym (held-sum-fast w h (size .width-from) (size .height-from) limit 1 (guide-plane g guide) (own-plane g own) r c i j))
 
-  pub all-projected : 1 ≤ w → 1 ≤ h → {now : List ℤ} → now ≡ with-rows h → now ≡ overwrite own at (w * h) (λ k. projected limit low high w h (guide-plane guide from down across) (own-plane own at w) (k / w) (k % w))
-  all-projected wide tall e =
+  pub all-projected : Sized g → {now : List ℤ} → now ≡ with-rows h → now ≡ with-projected g own guide
+  unfolding with-projected
+  all-projected size e =
       e ∙ ap (λ (n : ℕ). overwrite own at n (λ k. settled-plane (k / w) (k % w))) (mul-comm h w)
-      ∙ overwrite-cong own at (w * h) _ _ (λ k b. settled-projected wide tall (k / w) (k % w) (row-inside w h k b) (column-inside w h k b))
+      ∙ overwrite-cong own at (w * h) _ _ (λ k b. settled-projected size (k / w) (k % w) (row-inside w h k b) (column-inside w h k b))

@@ -1,29 +1,44 @@
--- Planes that stand in lists, as the projection takes them. Assumes nothing.
+-- The projection of a plane that stands in a list, on a guide that stands in another: what it is given, and what it leaves.
+-- Assumes nothing.
 use mathlib.Core.List.{List}
-use Prim.Native.Nat.{ℕ, _+_, _*_, _≤_, _<_}
+use Prim.Native.Nat.{ℕ, _+_, _*_, _/_, _%_, _≤_, _<_}
 use lib.IntN.{ℤ, pos, natAbs, _-ℤ_}
 use lib.ListN.{getD, length}
+use Rattle.integers.specs.Lists.{overwrite}
+use Rattle.filters.specs.Bank.{Distance}
 use Rattle.lines.specs.Lines.{value}
+use Rattle.projection.specs.Projection.{projected}
+use Rattle.sweep.specs.declared.Given.{Given}
 
--- the plane of width w that stands in a list from `at` on, row by row
-unfoldable pub own-plane : List ℤ → ℕ → ℕ → ℕ → ℕ → ℤ
-own-plane own at w r c = value own (at + (r * w + c))
+-- the plane that stands in a list from `at` on, row by row
+unfoldable pub own-plane : Given → List ℤ → ℕ → ℕ → ℤ
+own-plane g own r c = value own (g .at + (r * g .width + c))
 
 -- the guide's plane: its first sample at `from`, its rows `down` apart and its columns `across` apart
-unfoldable pub guide-plane : List ℕ → ℕ → ℕ → ℕ → ℕ → ℕ → ℤ
-guide-plane guide from down across r c = pos (getD guide (from + r * down + c * across) 0)
+unfoldable pub guide-plane : Given → List ℕ → ℕ → ℕ → ℤ
+guide-plane g guide r c = pos (getD guide (g .from + r * g .down + c * g .across) 0)
 
 -- how far from 0 a value, and its difference to the guide's, may be; a working plane of 16-bit samples keeps within it
 abbrev pub reach : ℕ
 reach = 131070
 
--- a plane of w by h, and its guide
-pub record Projectable (own : List ℤ) (at : ℕ) (guide : List ℕ) (from down across w h : ℕ) : Type 0 where
-  pub width-from : 1 ≤ w
-  pub width-to : w ≤ 2048
-  pub height-from : 1 ≤ h
-  pub height-to : h ≤ 2048
-  pub inside : at + w * h ≤ length own
-  pub small : (k : ℕ) → k < w * h → natAbs (value own (at + k)) ≤ reach
-  pub guide-inside : (r c : ℕ) → r < h → c < w → from + r * down + c * across < length guide
-  pub near : (r c : ℕ) → r < h → c < w → natAbs (own-plane own at w r c -ℤ guide-plane guide from down across r c) ≤ reach
+-- the sizes that are taken
+pub record Sized (g : Given) : Type 0 where
+  pub width-from : 1 ≤ g .width
+  pub width-to : g .width ≤ 2048
+  pub height-from : 1 ≤ g .height
+  pub height-to : g .height ≤ 2048
+
+-- a plane and its guide that can be projected
+pub record Projectable (g : Given) (own : List ℤ) (guide : List ℕ) : Type 0 where
+  pub size : Sized g
+  pub limit : Distance (g .limit)
+  pub inside : g .at + g .width * g .height ≤ length own
+  pub small : (k : ℕ) → k < g .width * g .height → natAbs (value own (g .at + k)) ≤ reach
+  pub guide-inside : (r c : ℕ) → r < g .height → c < g .width → g .from + r * g .down + c * g .across < length guide
+  pub near : (r c : ℕ) → r < g .height → c < g .width → natAbs (own-plane g own r c -ℤ guide-plane g guide r c) ≤ reach
+
+-- the list after it
+unfoldable pub with-projected : Given → List ℤ → List ℕ → List ℤ
+with-projected g own guide =
+    overwrite own (g .at) (g .width * g .height) (λ k. projected (g .limit) (g .least) (g .most) (g .width) (g .height) (guide-plane g guide) (own-plane g own) (k / g .width) (k % g .width))

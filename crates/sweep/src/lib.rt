@@ -1,69 +1,86 @@
 // Inner: the projection of a plane on the details of a guide, in one sweep over the rows. A row of the joined parts is made from three
 // rows of the differences, and a row is settled from five rows of those, two rows later: all of them are still in the cache.
 ghost use mathlib.Core.Path.{_≡_};
-ghost use Prim.Native.Nat.{_+_, _*_, _-_, _/_, _%_, _≤_, _<_};
+ghost use Prim.Native.Nat.{_+_, _*_, _-_, _≤_, _<_};
 ghost use lib.IntN.{pos, _+ℤ_, _-ℤ_};
 ghost use lib.ListN.{length};
 ghost use Rattle.integers.specs.Lists.{overwrite};
-ghost use Rattle.filters.specs.Bank.{Distance, low-split, high-split};
+ghost use Rattle.filters.specs.Bank.{Distance};
 ghost use Rattle.turns.specs.Filling.{InRow};
 ghost use Rattle.lines.specs.Lines.{Run};
-ghost use Rattle.projection.specs.Projection.{projected};
-ghost use Rattle.projection.specs.Fast.{apart-row, together-row};
-ghost use Rattle.details.specs.Details.{difference-line};
-ghost use Rattle.sweep.specs.Planes.{own-plane, guide-plane, reach, Projectable};
-ghost use Rattle.sweep.specs.Rows.{slot, slot-of, ring-line, RingRows, settled-row, Settleable};
+ghost use Rattle.sweep.specs.Planes.{Sized, reach, Projectable, with-projected};
+ghost use Rattle.sweep.specs.Rows.{slot, slot-of, row-at, guide-at, difference-row, RingRows, ring-apart, ring-together, five-slots, with-settled, Settleable};
+
+// What a projection is given, beside the two lists.
+pub struct Given {
+    // the plane's first place; its rows follow each other
+    pub at: usize,
+    // the guide's first sample, and how far apart its rows and its columns stand
+    pub from: usize,
+    pub down: usize,
+    pub across: usize,
+    // the size of both
+    pub width: usize,
+    pub height: usize,
+    // how far a detail may be from the guide's
+    pub limit: i32,
+    // the ends of the clip
+    pub least: i32,
+    pub most: i32,
+}
 
 // Where a ring of n slots has the row that stands `back` rows before row r.
-fn slot_before(n: usize, width: usize, height: usize, r: usize, back: usize) -> usize
-    requires { ⌜ (1 ≤ n) × (n ≤ 5) × (width ≤ 2048) × (1 ≤ height) × (height ≤ 2048) ⌝ }
-    ensures { λ s. ⌜ (s ≡ slot-of n width height (pos r -ℤ pos back)) × (s + width ≤ n * width) ⌝ }
+fn slot_before(given: Given, n: usize, r: usize, back: usize) -> usize
+    requires { ⌜ (1 ≤ n) × (n ≤ 5) × Sized given ⌝ }
+    ensures { λ s. ⌜ (s ≡ slot-of n given (pos r -ℤ pos back)) × (s + given .width ≤ n * given .width) ⌝ }
 {
-    border::reflected_before(height, r, back) % n * width
+    border::reflected_before(given.height, r, back) % n * given.width
 }
 
 // And the row that stands `ahead` rows after it.
-fn slot_after(n: usize, width: usize, height: usize, r: usize, ahead: usize) -> usize
-    requires { ⌜ (1 ≤ n) × (n ≤ 5) × (width ≤ 2048) × (1 ≤ height) × (height ≤ 2048) × (r < height) × (ahead ≤ 2) ⌝ }
-    ensures { λ s. ⌜ (s ≡ slot-of n width height (pos r +ℤ pos ahead)) × (s + width ≤ n * width) ⌝ }
+fn slot_after(given: Given, n: usize, r: usize, ahead: usize) -> usize
+    requires { ⌜ (1 ≤ n) × (n ≤ 5) × Sized given × (r < given .height) × (ahead ≤ 2) ⌝ }
+    ensures { λ s. ⌜ (s ≡ slot-of n given (pos r +ℤ pos ahead)) × (s + given .width ≤ n * given .width) ⌝ }
 {
-    border::reflected(height, r + ahead) % n * width
+    border::reflected(given.height, r + ahead) % n * given.width
+}
+
+// Where a ring of five slots has the rows from two before row r to two after it.
+fn five_slots(given: Given, r: usize) -> details::Five
+    requires { ⌜ Sized given × (r < given .height) ⌝ }
+    ensures { λ five. ⌜ five ≡ five-slots given r ⌝ }
+{
+    let a = slot_before(given, 5, r, 2);
+    let b = slot_before(given, 5, r, 1);
+    let c = r % 5 * given.width;
+    let d = slot_after(given, 5, r, 1);
+    let e = slot_after(given, 5, r, 2);
+    details::Five { a, b, c, d, e }
 }
 
 // Row r of the differences, into its slot of the ring.
-fn difference_row(
-    own: &[i32],
-    at: usize,
-    guide: &[u16],
-    from: usize,
-    down: usize,
-    across: usize,
-    width: usize,
-    r: usize,
-    ring: &mut [i32],
-)
-    requires { ⌜ Run reach (now own) (at + r * width) width × InRow (now guide) width (from + r * down) across ⌝ }
-    requires { ⌜ (1 ≤ width) × (width ≤ 2048) × (3 * width ≤ length (now ring)) ⌝ }
-    ensures { λ _. ⌜ now (ring .exit) ≡ overwrite (now (ring .entry)) (slot 3 width r) width (difference-line (now (own .entry)) (at + r * width) (now (guide .entry)) (from + r * down) across) ⌝ }
+fn difference_row(own: &[i32], guide: &[u16], given: Given, r: usize, ring: &mut [i32])
+    requires { ⌜ Run reach (now own) (row-at given r) (given .width) × InRow (now guide) (given .width) (guide-at given r) (given .across) ⌝ }
+    requires { ⌜ Sized given × (3 * given .width ≤ length (now ring)) ⌝ }
+    ensures { λ _. ⌜ now (ring .exit) ≡ overwrite (now (ring .entry)) (slot 3 (given .width) r) (given .width) (difference-row given (now (own .entry)) (now (guide .entry)) r) ⌝ }
 {
-    let row = at + r * width;
-    let guide_row = from + r * down;
-    let slot = r % 3 * width;
+    let n = given.width;
+    let row = given.at + r * n;
+    let guide_row = given.from + r * given.down;
+    let slot = r % 3 * n;
     // with 1 as a number, the loop reads the guide in whole vectors
-    if across == 1 {
-        details::difference_line(own, row, guide, guide_row, 1, width, ring, slot);
+    if given.across == 1 {
+        details::difference_line(own, row, guide, guide_row, 1, n, ring, slot);
     } else {
-        details::difference_line(own, row, guide, guide_row, across, width, ring, slot);
+        details::difference_line(own, row, guide, guide_row, given.across, n, ring, slot);
     }
 }
 
 // Row r of the joined parts, into its slots, from three rows of the differences. The other five lines are scratch.
 fn parts_row(
     differences: &[i32],
-    width: usize,
-    height: usize,
+    given: Given,
     r: usize,
-    limit: i32,
     low: &mut [i32],
     high: &mut [i32],
     parts: &mut [i32],
@@ -72,18 +89,19 @@ fn parts_row(
     apart: &mut [i32],
     together: &mut [i32],
 )
-    requires { ⌜ (1 ≤ width) × (width ≤ 2048) × (1 ≤ height) × (height ≤ 2048) × (r < height) × Distance limit × RingRows reach (now differences) width height r ⌝ }
-    requires { ⌜ (width + 2 ≤ length (now low)) × (width + 2 ≤ length (now high)) × (width + 4 ≤ length (now parts)) × (width + 4 ≤ length (now minus)) × (width + 4 ≤ length (now plus)) ⌝ }
-    requires { ⌜ (5 * width ≤ length (now apart)) × (5 * width ≤ length (now together)) ⌝ }
-    ensures { λ _. ⌜ now (apart .exit) ≡ overwrite (now (apart .entry)) (slot 5 width r) width (apart-row limit width (ring-line low-split (now (differences .entry)) width height r) (ring-line high-split (now (differences .entry)) width height r)) ⌝ }
-    ensures { λ _. ⌜ now (together .exit) ≡ overwrite (now (together .entry)) (slot 5 width r) width (together-row limit width (ring-line low-split (now (differences .entry)) width height r) (ring-line high-split (now (differences .entry)) width height r)) ⌝ }
+    requires { ⌜ Sized given × (r < given .height) × Distance (given .limit) × RingRows given (now differences) r ⌝ }
+    requires { ⌜ (given .width + 2 ≤ length (now low)) × (given .width + 2 ≤ length (now high)) × (given .width + 4 ≤ length (now parts)) × (given .width + 4 ≤ length (now minus)) × (given .width + 4 ≤ length (now plus)) ⌝ }
+    requires { ⌜ (5 * given .width ≤ length (now apart)) × (5 * given .width ≤ length (now together)) ⌝ }
+    ensures { λ _. ⌜ now (apart .exit) ≡ overwrite (now (apart .entry)) (slot 5 (given .width) r) (given .width) (ring-apart given (now (differences .entry)) r) ⌝ }
+    ensures { λ _. ⌜ now (together .exit) ≡ overwrite (now (together .entry)) (slot 5 (given .width) r) (given .width) (ring-together given (now (differences .entry)) r) ⌝ }
 {
-    let above = slot_before(3, width, height, r, 1);
-    let here = r % 3 * width;
-    let below = slot_after(3, width, height, r, 1);
-    lines::split_line(differences, above, here, below, width, low, high, 1);
-    details::outer_along(low, high, limit, width, parts, minus, plus);
-    details::join_along(parts, minus, plus, width, apart, together, r % 5 * width);
+    let n = given.width;
+    let above = slot_before(given, 3, r, 1);
+    let here = r % 3 * n;
+    let below = slot_after(given, 3, r, 1);
+    lines::split_line(differences, above, here, below, n, low, high, 1);
+    details::outer_along(low, high, given.limit, n, parts, minus, plus);
+    details::join_along(parts, minus, plus, n, apart, together, r % 5 * n);
 }
 
 // How many rows can be settled when r rows of parts are joined.
@@ -96,28 +114,29 @@ fn ready(r: usize) -> usize
 // The rows from `first` on and below `last`, from five rows of the joined parts each.
 fn settle_rows(
     own: &mut [i32],
-    at: usize,
-    width: usize,
-    height: usize,
+    given: Given,
     first: usize,
     last: usize,
     apart: &[i32],
     together: &[i32],
-    low: i32,
-    high: i32,
 )
-    requires { ⌜ Settleable (now own) at (now apart) (now together) width height first last ⌝ }
-    ensures { λ _. ⌜ now (own .exit) ≡ overwrite (now (own .entry)) (at + first * width) ((last - first) * width) (λ k. settled-row low high (now (own .entry)) at (now (apart .entry)) (now (together .entry)) width height (first + k / width) (k % width)) ⌝ }
+    requires { ⌜ Settleable given (now own) (now apart) (now together) first last ⌝ }
+    ensures { λ _. ⌜ now (own .exit) ≡ with-settled given (now (own .entry)) (now (apart .entry)) (now (together .entry)) first last ⌝ }
 {
     let mut r = first;
     while r < last {
-        let a = slot_before(5, width, height, r, 2);
-        let b = slot_before(5, width, height, r, 1);
-        let c = r % 5 * width;
-        let d = slot_after(5, width, height, r, 1);
-        let e = slot_after(5, width, height, r, 2);
-        let row = at + r * width;
-        details::settle_line(own, row, apart, together, a, b, c, d, e, width, low, high);
+        let five = five_slots(given, r);
+        let row = given.at + r * given.width;
+        details::settle_line(
+            own,
+            row,
+            apart,
+            together,
+            five,
+            given.width,
+            given.least,
+            given.most,
+        );
         r += 1;
     }
 }
@@ -125,99 +144,55 @@ fn settle_rows(
 // The sweep. The rings and lines are scratch.
 fn project_rows(
     own: &mut [i32],
-    at: usize,
     guide: &[u16],
-    from: usize,
-    down: usize,
-    across: usize,
-    width: usize,
-    height: usize,
-    limit: i32,
-    low: i32,
-    high: i32,
+    given: Given,
     differences: &mut [i32],
-    line1: &mut [i32],
-    line2: &mut [i32],
+    low: &mut [i32],
+    high: &mut [i32],
     parts: &mut [i32],
     minus: &mut [i32],
     plus: &mut [i32],
     apart: &mut [i32],
     together: &mut [i32],
 )
-    requires { ⌜ Distance limit × Projectable (now own) at (now guide) from down across width height ⌝ }
-    requires { ⌜ (3 * width ≤ length (now differences)) × (width + 2 ≤ length (now line1)) × (width + 2 ≤ length (now line2)) × (width + 4 ≤ length (now parts)) × (width + 4 ≤ length (now minus)) × (width + 4 ≤ length (now plus)) ⌝ }
-    requires { ⌜ (5 * width ≤ length (now apart)) × (5 * width ≤ length (now together)) ⌝ }
-    ensures { λ _. ⌜ now (own .exit) ≡ overwrite (now (own .entry)) at (width * height) (λ k. projected limit low high width height (guide-plane (now (guide .entry)) from down across) (own-plane (now (own .entry)) at width) (k / width) (k % width)) ⌝ }
+    requires { ⌜ Projectable given (now own) (now guide) ⌝ }
+    requires { ⌜ (3 * given .width ≤ length (now differences)) × (given .width + 2 ≤ length (now low)) × (given .width + 2 ≤ length (now high)) × (given .width + 4 ≤ length (now parts)) × (given .width + 4 ≤ length (now minus)) × (given .width + 4 ≤ length (now plus)) ⌝ }
+    requires { ⌜ (5 * given .width ≤ length (now apart)) × (5 * given .width ≤ length (now together)) ⌝ }
+    ensures { λ _. ⌜ now (own .exit) ≡ with-projected given (now (own .entry)) (now (guide .entry)) ⌝ }
 {
-    difference_row(own, at, guide, from, down, across, width, 0, differences);
+    difference_row(own, guide, given, 0, differences);
+    let height = given.height;
     let mut r = 0;
     while r < height {
         let next = border::reflected(height, r + 1);
-        difference_row(own, at, guide, from, down, across, width, next, differences);
+        difference_row(own, guide, given, next, differences);
         parts_row(
             differences,
-            width,
-            height,
+            given,
             r,
-            limit,
-            line1,
-            line2,
+            low,
+            high,
             parts,
             minus,
             plus,
             apart,
             together,
         );
-        settle_rows(
-            own,
-            at,
-            width,
-            height,
-            ready(r),
-            ready(r + 1),
-            apart,
-            together,
-            low,
-            high,
-        );
+        settle_rows(own, given, ready(r), ready(r + 1), apart, together);
         r += 1;
     }
-    settle_rows(
-        own,
-        at,
-        width,
-        height,
-        ready(height),
-        height,
-        apart,
-        together,
-        low,
-        high,
-    );
+    settle_rows(own, given, ready(height), height, apart, together);
 }
 
-// The plane of width by height at place `at` of `own`, its details held within the guide's ± limit, brought back to low..high. The guide's
-// first sample stands at `from`, its rows `down` apart and its columns `across` apart.
-pub fn project(
-    own: &mut [i32],
-    at: usize,
-    guide: &[u16],
-    from: usize,
-    down: usize,
-    across: usize,
-    width: usize,
-    height: usize,
-    limit: i32,
-    low: i32,
-    high: i32,
-)
-    requires { ⌜ Distance limit × Projectable (now own) at (now guide) from down across width height ⌝ }
-    ensures { λ _. ⌜ now (own .exit) ≡ overwrite (now (own .entry)) at (width * height) (λ k. projected limit low high width height (guide-plane (now (guide .entry)) from down across) (own-plane (now (own .entry)) at width) (k / width) (k % width)) ⌝ }
+// The plane's details held within the guide's ± limit, and the plane brought back to least..most.
+pub fn project(own: &mut [i32], guide: &[u16], given: Given)
+    requires { ⌜ Projectable given (now own) (now guide) ⌝ }
+    ensures { λ _. ⌜ now (own .exit) ≡ with-projected given (now (own .entry)) (now (guide .entry)) ⌝ }
 {
     // Longer than they need be: lines some multiple of 4,096 bytes apart would hinder each other in the machine's loads and stores.
     let mut differences = [0i32; 6264];
-    let mut line1 = [0i32; 2168];
-    let mut line2 = [0i32; 2168];
+    let mut low = [0i32; 2168];
+    let mut high = [0i32; 2168];
     let mut parts = [0i32; 2168];
     let mut minus = [0i32; 2168];
     let mut plus = [0i32; 2168];
@@ -225,19 +200,11 @@ pub fn project(
     let mut together = [0i32; 10360];
     project_rows(
         own,
-        at,
         guide,
-        from,
-        down,
-        across,
-        width,
-        height,
-        limit,
-        low,
-        high,
+        given,
         &mut differences,
-        &mut line1,
-        &mut line2,
+        &mut low,
+        &mut high,
         &mut parts,
         &mut minus,
         &mut plus,

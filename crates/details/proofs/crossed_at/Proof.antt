@@ -55,15 +55,19 @@ mul-high-join-5 c = search needs
 shared-slice-copy-out-high-join-5 : tie.Need-shared-slice-copy-out-high-join-5
 shared-slice-copy-out-high-join-5 c = search needs
 
+-- where all five values are read
+abbrev start : tie.After-high-join-arg5 → tie.Start
+start c = c .before .before .before .before .before .before .before .before .before .before
+
 high-join-requires : tie.Need-high-join-requires
 high-join-requires c κs =
-    let s = c .before .before .before .before .before in
+    let s = start c in
     let small = crossing-small (s .pre .0) (s .args .k) (s .pre .1) 134217728 (omega arith) in
     search needs
 
 returns : tie.Need-returns
 returns c =
-    let s = c .before .before .before .before .before .before in
+    let s = start (c .before) in
     read-is w32 (c .high-join .ok) (c .high-join .ensures) ∙ crossing-read (s .pre .0) (s .args .k) (s .pre .1) (lit< tt)
 
 pub crossed-at-spec : {M : Type 1} → statement M

@@ -7,7 +7,7 @@ use lib.IntN.{ℤ, _+ℤ_, _-ℤ_}
 use lib.ListN.{length}
 use denote.Ref.{now}
 use Rattle.integers.proofs.Lists.{overwrite-cong}
-use Rattle.details.specs.Details.{from-place, joined-minus, joined-plus}
+use Rattle.details.specs.Details.{from-place, joined-apart, joined-together}
 use Rattle.projection.proofs.Parts.{crossed-same}
 use Rattle.details.proofs.Details.{crossing-padded, crossed-padded}
 use borrow.Author.Needs.{needs}
@@ -57,7 +57,7 @@ same-length-5 : tie.Need-same-length-5
 same-length-5 c = search needs
 
 returns : tie.Need-returns
-unfolding joined-minus joined-plus
+unfolding joined-apart joined-together
 returns c =
     let s = c .before .before .before .before .before .before .before .before .before .before .before .before .before .before .before .before .before in
     let a = s .args in

@@ -12,24 +12,24 @@ use mir.Facts.{toZ-ofZ as back}
 use Rattle.integers.specs.Lists.{overwrite}
 use Rattle.integers.proofs.Lists.{overwrite-none, overwrite-step}
 use Rattle.integers.proofs.Bounds.{fits, bounds, read-is, read-bound}
-use Rattle.details.specs.Details.{joined-minus, joined-plus}
+use Rattle.details.specs.Details.{joined-apart, joined-together}
 use Rattle.details.proofs.Details.{crossing-range, crossing-wider}
 use Rattle.details.proofs.join_parts.Statement.{statement}
 use Rattle.details.proofs.join_parts.Tie as tie
 
 abbrev Inv-loop : tie.InvT-loop
 Inv-loop parts minus plus n apart₀ together₀ at k₀ apart together k =
-    (k ≤ n) × (apart ≡ overwrite apart₀ at k (joined-minus parts minus plus)) × (together ≡ overwrite together₀ at k (joined-plus parts minus plus)) × (length apart ≡ length apart₀) × (length together ≡ length together₀)
+    (k ≤ n) × (apart ≡ overwrite apart₀ at k (joined-apart parts minus plus)) × (together ≡ overwrite together₀ at k (joined-together parts minus plus)) × (length apart ≡ length apart₀) × (length together ≡ length together₀)
 
 abbrev μ-loop : tie.MeasureT-loop
 μ-loop parts minus plus n apart₀ together₀ at k₀ apart together k = n - k
 
 -- what is laid down
 abbrev Apart : tie.Start Inv-loop μ-loop → ℕ → ℤ
-Apart s = let a = s .args in joined-minus (now (a .parts)) (now (a .minus)) (now (a .plus))
+Apart s = let a = s .args in joined-apart (now (a .parts)) (now (a .minus)) (now (a .plus))
 
 abbrev Together : tie.Start Inv-loop μ-loop → ℕ → ℤ
-Together s = let a = s .args in joined-plus (now (a .parts)) (now (a .minus)) (now (a .plus))
+Together s = let a = s .args in joined-together (now (a .parts)) (now (a .minus)) (now (a .plus))
 
 -- both sums are small
 small : (c : tie.After-crossed-at2 Inv-loop μ-loop) → (natAbs (toZ w32 (ofZ w32 (c .before .crossed-at .result))) ≤ 805306368) × (natAbs (toZ w32 (ofZ w32 (c .crossed-at2 .result))) ≤ 805306368)
@@ -68,11 +68,11 @@ slice-set-from-together c = omega arith
 add-together-2 : tie.Need-add-together-2 Inv-loop μ-loop
 add-together-2 c = let q = small c in fits (search bounds depth 14) tt
 
-add-t14 : tie.Need-add-t14 Inv-loop μ-loop
-add-t14 c = omega arith
+add-t15 : tie.Need-add-t15 Inv-loop μ-loop
+add-t15 c = omega arith
 
-mul-t13 : tie.Need-mul-t13 Inv-loop μ-loop
-mul-t13 c = omega arith
+mul-t14 : tie.Need-mul-t14 Inv-loop μ-loop
+mul-t14 c = omega arith
 
 slice-set-from-together-2 : tie.Need-slice-set-from-together-2 Inv-loop μ-loop
 slice-set-from-together-2 c = omega arith
@@ -84,7 +84,7 @@ loop-less : tie.Need-loop-less Inv-loop μ-loop
 loop-less c = omega arith
 
 loop-again : tie.Need-loop-again Inv-loop μ-loop
-unfolding joined-minus joined-plus
+unfolding joined-apart joined-together
 loop-again c =
     let l = c .before .before .before in
     let s = l .before in
@@ -124,8 +124,8 @@ join-parts-spec =
     mul-together
     slice-set-from-together
     add-together-2
-    add-t14
-    mul-t13
+    add-t15
+    mul-t14
     slice-set-from-together-2
     add-k
     loop-less

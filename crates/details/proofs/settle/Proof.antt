@@ -22,7 +22,7 @@ returns : tie.Need-returns
 unfolding settled
 returns c =
     let s = c .before in
-    read-is w32 (c .rescale-bounded .ok) (c .rescale-bounded .ensures) ∙ rw (back (sub-rescale-bounded s), back (mul-rescale-bounded s), back (s .fits .low), back (s .fits .high), back (s .fits .x), back (s .fits .sum))
+    read-is w32 (c .rescale-bounded .ok) (c .rescale-bounded .ensures) ∙ rw (back (sub-rescale-bounded s), back (mul-rescale-bounded s), back (s .fits .least), back (s .fits .most), back (s .fits .x), back (s .fits .sum))
 
 pub settle-spec : {M : Type 1} → statement M
 settle-spec = tie.close (tie.spec mul-rescale-bounded sub-rescale-bounded rescale-bounded-requires returns)

@@ -23,15 +23,15 @@ use Rattle.details.proofs.settle_line.Statement.{statement}
 use Rattle.details.proofs.settle_line.Tie as tie
 
 abbrev Inv-loop : tie.InvT-loop
-Inv-loop own₀ at minus plus a b c d e n low high k₀ own k =
-    (k ≤ n) × (own ≡ overwrite own₀ at k (λ i. settled (toZ w32 low) (toZ w32 high) (value own₀ (at + i)) (crossed minus plus a b c d e i))) × (length own ≡ length own₀)
+Inv-loop own₀ at apart together five n least most k₀ own k =
+    (k ≤ n) × (own ≡ overwrite own₀ at k (λ i. settled (toZ w32 least) (toZ w32 most) (value own₀ (at + i)) (crossed apart together five i))) × (length own ≡ length own₀)
 
 abbrev μ-loop : tie.MeasureT-loop
-μ-loop own₀ at minus plus a b c d e n low high k₀ own k = n - k
+μ-loop own₀ at apart together five n least most k₀ own k = n - k
 
 -- what is laid down, with the clip's ends as the machine reads them
 abbrev Laid : tie.Start Inv-loop μ-loop → ℕ → ℤ
-Laid s = let a = s .args in λ i. settled (toZ w32 (ofZ w32 (a .low))) (toZ w32 (ofZ w32 (a .high))) (value (now (a .own)) (a .at + i)) (crossed (now (a .minus)) (now (a .plus)) (a .a) (a .b) (a .c) (a .d) (a .e) i)
+Laid s = let a = s .args in λ i. settled (toZ w32 (ofZ w32 (a .least))) (toZ w32 (ofZ w32 (a .most))) (value (now (a .own)) (a .at + i)) (crossed (now (a .apart)) (now (a .together)) (a .five) i)
 
 -- the place that is next is as it was
 untouched : (l : tie.At-loop Inv-loop μ-loop) → let s = l .before in l .loop .k < s .args .n → value (l .loop .own) (s .args .at + l .loop .k) ≡ value (now (s .args .own)) (s .args .at + l .loop .k)
@@ -64,11 +64,11 @@ settle-requires c κs =
     let x : natAbs (value (l .loop .own) (s .args .at + l .loop .k)) ≤ 131070 = subst (λ (z : ℤ). natAbs z ≤ 131070) (sym (untouched l i)) (s .pre .0 .small (l .loop .k) i) in
     (le-trans (abs-read w32 (value (l .loop .own) (s .args .at + l .loop .k))) x, read-bound w32 (c .before .crossed-at .ensures) (crossing-range (s .pre .1) (l .loop .k) i))
 
-add-t21 : tie.Need-add-t21 Inv-loop μ-loop
-add-t21 c = omega arith
+add-t17 : tie.Need-add-t17 Inv-loop μ-loop
+add-t17 c = omega arith
 
-mul-t22 : tie.Need-mul-t22 Inv-loop μ-loop
-mul-t22 c = omega arith
+mul-t18 : tie.Need-mul-t18 Inv-loop μ-loop
+mul-t18 c = omega arith
 
 slice-set-from-own : tie.Need-slice-set-from-own Inv-loop μ-loop
 slice-set-from-own c = omega arith
@@ -88,7 +88,7 @@ loop-again c =
     let v : toZ w32 (ofZ w32 (value (l .loop .own) (a .at + l .loop .k))) ≡ value (now (a .own)) (a .at + l .loop .k) = ap (λ z. toZ w32 (ofZ w32 z)) (untouched l i) ∙ read-value (lit< tt) (s .pre .0) (l .loop .k) i in
     let q = read-is w32 (c .before .before .crossed-at .ok) (c .before .before .crossed-at .ensures) in (
       omega arith,
-      overwrite-step (now (a .own)) (a .at) (l .loop .k) (Laid s) (a .at + l .loop .k) refl (l .loop .inv .1) (read-is w32 (c .settle .ok) (c .settle .ensures) ∙ (λ j. settled (toZ w32 (ofZ w32 (a .low))) (toZ w32 (ofZ w32 (a .high))) (v j) (q j))) (omega (arith, s .pre .0 .inside)),
+      overwrite-step (now (a .own)) (a .at) (l .loop .k) (Laid s) (a .at + l .loop .k) refl (l .loop .inv .1) (read-is w32 (c .settle .ok) (c .settle .ensures) ∙ (λ j. settled (toZ w32 (ofZ w32 (a .least))) (toZ w32 (ofZ w32 (a .most))) (v j) (q j))) (omega (arith, s .pre .0 .inside)),
       simp length-set (l .loop .inv .2),
     )
 
@@ -101,7 +101,7 @@ returns c =
     let s = l .before in
     let a = s .args in
     let all : l .loop .k ≡ a .n = omega arith in
-    l .loop .inv .1 ∙ (λ j. overwrite (now (a .own)) (a .at) (all j) (λ k. settled (back (s .fits .low) j) (back (s .fits .high) j) (value (now (a .own)) (a .at + k)) (crossed (now (a .minus)) (now (a .plus)) (a .a) (a .b) (a .c) (a .d) (a .e) k)))
+    l .loop .inv .1 ∙ (λ j. overwrite (now (a .own)) (a .at) (all j) (λ k. settled (back (s .fits .least) j) (back (s .fits .most) j) (value (now (a .own)) (a .at + k)) (crossed (now (a .apart)) (now (a .together)) (a .five) k)))
 
 pub settle-line-spec : {M : Type 1} → statement M
 settle-line-spec =
@@ -115,8 +115,8 @@ settle-line-spec =
     mul-settle
     slice-copy-out-settle
     settle-requires
-    add-t21
-    mul-t22
+    add-t17
+    mul-t18
     slice-set-from-own
     add-k
     loop-less

@@ -1,14 +1,6 @@
 -- `sweep::project` meets its contract: the rings and lines are its own.
 -- Assumes nothing.
-use mathlib.Core.Path.{sym, _∙_, subst}
-use Prim.Native.Nat.{_*_, _/_, _%_}
 use native.Mathlib.Omega.{arith}
-use denote.Ref.{now}
-use mir.Facts.{toZ-ofZ as back}
-use Rattle.filters.specs.Bank.{Distance}
-use Rattle.integers.specs.Lists.{overwrite}
-use Rattle.projection.specs.Projection.{projected}
-use Rattle.sweep.specs.Planes.{own-plane, guide-plane}
 use borrow.Author.Needs.{needs}
 use Rattle.sweep.proofs.project.Statement.{statement}
 use Rattle.sweep.proofs.project.Tie as tie
@@ -39,19 +31,15 @@ slice-aggregate-project-rows-8 c = search needs
 
 project-rows-requires : tie.Need-project-rows-requires
 project-rows-requires c κs =
-    let s = c .before .before .before .before .before .before .before .before .before .before in
-    let limit = subst Distance (sym (back (s .fits .limit))) (s .pre .0) in
-    ((limit, s .pre .1), ((omega (arith, s .pre .1 .width-to), omega (arith, s .pre .1 .width-to), omega (arith, s .pre .1 .width-to), omega (arith, s .pre .1 .width-to), omega (arith, s .pre .1 .width-to), omega (arith, s .pre .1 .width-to)), (omega (arith, s .pre .1 .width-to), omega (arith, s .pre .1 .width-to))))
+    let p = c .before .before .before .before .before .before .before .before .before .before .pre in
+    let w = p .size .width-to in
+    (p, ((omega (arith, w), omega (arith, w), omega (arith, w), omega (arith, w), omega (arith, w), omega (arith, w)), (omega (arith, w), omega (arith, w))))
 
 same-length : tie.Need-same-length
 same-length c = search needs
 
 returns : tie.Need-returns
-returns c =
-    let s = c .before .before .before .before .before .before .before .before .before .before .before .before .before .before .before .before .before .before .before .before in
-    let a = s .args in
-    c .before .before .before .before .before .before .before .before .before .project-rows .ensures
-    ∙ (λ j. overwrite (now (a .own)) (a .at) (a .width * a .height) (λ k. projected (back (s .fits .limit) j) (back (s .fits .low) j) (back (s .fits .high) j) (a .width) (a .height) (guide-plane (now (a .guide)) (a .from) (a .down) (a .across)) (own-plane (now (a .own)) (a .at) (a .width)) (k / a .width) (k % a .width)))
+returns c = c .before .before .before .before .before .before .before .before .before .project-rows .ensures
 
 pub project-spec : {M : Type 1} → statement M
 project-spec =

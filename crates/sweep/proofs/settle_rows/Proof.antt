@@ -3,68 +3,69 @@
 use mathlib.Core.Path.{_≡_, refl, _∙_, ap}
 use Prim.Native.Nat.{ℕ, _+_, _*_, _-_, _/_, _%_, _≤_, _<_}
 use native.Mathlib.Omega.{arith}
-use lib.IntN.{ℤ}
 use lib.ListN.{length}
 use denote.Ref.{now}
 use mir.Syntax.{w32}
 use mir.Val.{toZ, ofZ}
-use mir.Facts.{toZ-ofZ as back}
 use Rattle.integers.specs.Lists.{overwrite}
+use Rattle.integers.proofs.Bounds.{read-is}
 use Rattle.turns.proofs.Frames.{overwrite-no-row}
-use Rattle.sweep.specs.Rows.{settled-row}
-use Rattle.sweep.proofs.Rows.{slot-room, row-to-settle, rings-to-settle, row-settled}
-use borrow.Author.Needs.{needs}
+use Rattle.sweep.specs.Rows.{row-at, settled-row, with-settled}
+use Rattle.sweep.proofs.Rows.{row-to-settle, rings-to-settle, row-settled}
 use Rattle.sweep.proofs.settle_rows.Statement.{statement}
 use Rattle.sweep.proofs.settle_rows.Tie as tie
 
 abbrev Inv-loop : tie.InvT-loop
-Inv-loop own₀ at width height first last apart together low high r₀ own r =
-    (first ≤ r) × (r ≤ last) × (own ≡ overwrite own₀ (at + first * width) ((r - first) * width) (λ k. settled-row (toZ w32 low) (toZ w32 high) own₀ at apart together width height (first + k / width) (k % width))) × (length own ≡ length own₀)
+Inv-loop own₀ given first last apart together r₀ own r =
+    (first ≤ r) × (r ≤ last) × (own ≡ with-settled given own₀ apart together first r) × (length own ≡ length own₀)
 
 abbrev μ-loop : tie.MeasureT-loop
-μ-loop own₀ at width height first last apart together low high r₀ own r = last - r
-
--- what is laid down, with the clip's ends as the machine reads them
-abbrev Laid : tie.Start Inv-loop μ-loop → ℕ → ℤ
-Laid s = let a = s .args in λ k. settled-row (toZ w32 (ofZ w32 (a .low))) (toZ w32 (ofZ w32 (a .high))) (now (a .own)) (a .at) (now (a .apart)) (now (a .together)) (a .width) (a .height) (a .first + k / a .width) (k % a .width)
+μ-loop own₀ given first last apart together r₀ own r = last - r
 
 loop-holds : tie.Need-loop-holds Inv-loop μ-loop
 loop-holds c =
     let a = c .args in
+    let g = a .given in
+    let new : ℕ → _ = λ k. settled-row g (now (a .own)) (now (a .apart)) (now (a .together)) (a .first + k / g .width) (k % g .width) in
     let none : 0 ≡ a .first - a .first = omega arith in
-    (omega arith, c .pre .from, overwrite-no-row (now (a .own)) (a .at + a .first * a .width) (a .width) (Laid c) ∙ ap (λ (i : ℕ). overwrite (now (a .own)) (a .at + a .first * a .width) (i * a .width) (Laid c)) none, refl)
+    (omega arith, c .pre .from, overwrite-no-row (now (a .own)) (row-at g (a .first)) (g .width) new ∙ ap (λ (i : ℕ). overwrite (now (a .own)) (row-at g (a .first)) (i * g .width) new) none, refl)
 
-slot-before-requires : tie.Need-slot-before-requires Inv-loop μ-loop
-slot-before-requires c κs = search needs
+-- ---- the places of a turn
+abbrev turn : tie.After-five-slots Inv-loop μ-loop → tie.At-loop Inv-loop μ-loop
+turn c = c .before .before
 
-slot-before-requires-2 : tie.Need-slot-before-requires-2 Inv-loop μ-loop
-slot-before-requires-2 c κs = search needs
+abbrev found : tie.After-struct-told2 Inv-loop μ-loop → tie.After-five-slots Inv-loop μ-loop
+found c = c .before .before .before .before .before
 
-mul-c : tie.Need-mul-c Inv-loop μ-loop
-mul-c c =
-    let s = c .before .before .before .before in omega (arith, slot-room 5 (s .args .width) (c .before .before .before .loop .r) (omega arith))
+five-slots-requires : tie.Need-five-slots-requires Inv-loop μ-loop
+five-slots-requires c κs =
+    let s = c .before .before in
+    (s .pre .size, omega (arith, s .pre .to))
 
-slot-after-requires : tie.Need-slot-after-requires Inv-loop μ-loop
-slot-after-requires c κs = search needs
-
-slot-after-requires-2 : tie.Need-slot-after-requires-2 Inv-loop μ-loop
-slot-after-requires-2 c κs = search needs
+-- the row lies inside
+inside : (l : tie.At-loop Inv-loop μ-loop) → let s = l .before in l .loop .r < s .args .last → row-at (s .args .given) (l .loop .r) + s .args .given .width ≤ length (now (s .args .own))
+inside l i = l .before .pre .rows (l .loop .r) (l .loop .inv .0) i .inside
 
 mul-row : tie.Need-mul-row Inv-loop μ-loop
-mul-row c =
-    let q = c .before .before .before .before .before .before .pre .rows (c .before .before .before .before .before .loop .r) (omega arith) (omega arith) .inside in omega arith
+mul-row c = let l = turn (c .before) in omega (arith, inside l (omega arith))
 
 add-row : tie.Need-add-row Inv-loop μ-loop
-add-row c =
-    let q = c .before .before .before .before .before .before .pre .rows (c .before .before .before .before .before .loop .r) (omega arith) (omega arith) .inside in omega arith
+add-row c = let l = turn (c .before .before) in omega (arith, inside l (omega arith))
+
+-- the clip's ends, as the machine reads them: the record tells that its numbers fit
+ends : (k : tie.After-struct-told2 Inv-loop μ-loop) → let g = turn (found k) .before .args .given in (toZ w32 (ofZ w32 (g .least)) ≡ g .least) × (toZ w32 (ofZ w32 (g .most)) ≡ g .most)
+ends k = let z = k .struct-told2 .given .1 .1 .1 .1 .1 .1 .1 in (read-is w32 (z .0 .1) refl, read-is w32 (z .1 .0 .1) refl)
 
 settle-line-requires : tie.Need-settle-line-requires Inv-loop μ-loop
 settle-line-requires c κs =
-    let l = c .before .before .before .before .before .before in
+    let q = found c in
+    let l = turn q in
     let s = l .before in
     let a = s .args in
     let i : l .loop .r < a .last = omega arith in
-    (row-to-settle (toZ w32 (ofZ w32 (a .low))) (toZ w32 (ofZ w32 (a .high))) (now (a .own)) (a .at) (now (a .apart)) (now (a .together)) (a .width) (a .height) (a .first) (a .last) (s .pre) (l .loop .r) (l .loop .inv .0) i (l .loop .inv .2), rings-to-settle (toZ w32 (ofZ w32 (a .low))) (toZ w32 (ofZ w32 (a .high))) (now (a .own)) (a .at) (now (a .apart)) (now (a .together)) (a .width) (a .height) (a .first) (a .last) (s .pre) (l .loop .r) (l .loop .inv .0) i (l .loop .inv .2) (c .before .before .before .before .slot-before .ensures .0) (c .before .before .before .slot-before2 .ensures .0) (c .before .before .slot-after .ensures .0) (c .before .slot-after2 .ensures .0))
+    let row = row-to-settle (a .given) (now (a .own)) (now (a .apart)) (now (a .together)) (a .first) (a .last) (s .pre) (l .loop .r) (l .loop .inv .0) i (l .loop .inv .2) in
+    let rings = rings-to-settle (a .given) (now (a .own)) (now (a .apart)) (now (a .together)) (a .first) (a .last) (s .pre) (l .loop .r) (l .loop .inv .0) i (l .loop .inv .2) (q .five-slots .ensures) in
+    (row, rings)
 
 add-r : tie.Need-add-r Inv-loop μ-loop
 add-r c = omega arith
@@ -74,12 +75,16 @@ loop-less c = omega arith
 
 loop-again : tie.Need-loop-again Inv-loop μ-loop
 loop-again c =
-    let l = c .before .before .before .before .before .before .before .before in
+    let k = c .before .before in
+    let q = found k in
+    let l = turn q in
     let s = l .before in
     let a = s .args in
     let i : l .loop .r < a .last = omega arith in
-    let room = s .pre .rows (l .loop .r) (l .loop .inv .0) i .inside in
-    (omega arith, omega arith, row-settled (toZ w32 (ofZ w32 (a .low))) (toZ w32 (ofZ w32 (a .high))) (now (a .own)) (a .at) (now (a .apart)) (now (a .together)) (a .width) (a .height) (a .first) (a .last) (s .pre) (l .loop .r) (l .loop .inv .0) i (l .loop .inv .2) (c .before .before .before .before .before .before .slot-before .ensures .0) (c .before .before .before .before .before .slot-before2 .ensures .0) (c .before .before .before .before .slot-after .ensures .0) (c .before .before .before .slot-after2 .ensures .0) (c .before .settle-line .ensures), c .before .settle-line .kept .0 ∙ l .loop .inv .3)
+    let clip = ends k in
+    let room = inside l i in
+    let row = row-settled (a .given) (now (a .own)) (now (a .apart)) (now (a .together)) (a .first) (a .last) (s .pre) (l .loop .r) (l .loop .inv .0) i (l .loop .inv .2) (q .five-slots .ensures) (clip .0) (clip .1) (c .before .settle-line .ensures) in
+    (omega arith, omega arith, row, c .before .settle-line .kept .0 ∙ l .loop .inv .3)
 
 same-length : tie.Need-same-length Inv-loop μ-loop
 same-length c = c .before .loop .inv .3
@@ -87,10 +92,9 @@ same-length c = c .before .loop .inv .3
 returns : tie.Need-returns Inv-loop μ-loop
 returns c =
     let l = c .before in
-    let s = l .before in
-    let a = s .args in
+    let a = l .before .args in
     let all : l .loop .r ≡ a .last = omega arith in
-    l .loop .inv .2 ∙ (λ j. overwrite (now (a .own)) (a .at + a .first * a .width) ((all j - a .first) * a .width) (λ k. settled-row (back (s .fits .low) j) (back (s .fits .high) j) (now (a .own)) (a .at) (now (a .apart)) (now (a .together)) (a .width) (a .height) (a .first + k / a .width) (k % a .width)))
+    l .loop .inv .2 ∙ ap (with-settled (a .given) (now (a .own)) (now (a .apart)) (now (a .together)) (a .first)) all
 
 pub settle-rows-spec : {M : Type 1} → statement M
 settle-rows-spec =
@@ -99,11 +103,7 @@ settle-rows-spec =
     Inv-loop
     μ-loop
     loop-holds
-    slot-before-requires
-    slot-before-requires-2
-    mul-c
-    slot-after-requires
-    slot-after-requires-2
+    five-slots-requires
     mul-row
     add-row
     settle-line-requires

@@ -20,11 +20,15 @@ rem-result c = search needs
 
 mul-result : tie.Need-mul-result
 mul-result c =
-    let s = c .before in omega (arith, slot-room (s .args .n) (s .args .width) (c .reflected .result) (s .pre .0), mul-le-mul (s .pre .1) (s .pre .2))
+    let s = c .before .before in
+    let g = s .args .given in
+    omega (arith, slot-room (s .args .n) (g .width) (c .before .reflected .result) (s .pre .0), mul-le-mul (s .pre .1) (s .pre .2 .width-to))
 
 returns : tie.Need-returns
 returns c =
-    let s = c .before in (ap (slot (s .args .n) (s .args .width)) (c .reflected .ensures .0), slot-room (s .args .n) (s .args .width) (c .reflected .result) (s .pre .0))
+    let s = c .before .before in
+    let w = s .args .given .width in
+    (ap (slot (s .args .n) w) (c .before .reflected .ensures .0), slot-room (s .args .n) w (c .before .reflected .result) (s .pre .0))
 
 pub slot-after-spec : {M : Type 1} → statement M
 slot-after-spec =

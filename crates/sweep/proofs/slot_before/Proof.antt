@@ -17,11 +17,15 @@ rem-result c = search needs
 
 mul-result : tie.Need-mul-result
 mul-result c =
-    let s = c .before in omega (arith, slot-room (s .args .n) (s .args .width) (c .reflected-before .result) (s .pre .0), mul-le-mul (s .pre .1) (s .pre .2))
+    let s = c .before .before in
+    let g = s .args .given in
+    omega (arith, slot-room (s .args .n) (g .width) (c .before .reflected-before .result) (s .pre .0), mul-le-mul (s .pre .1) (s .pre .2 .width-to))
 
 returns : tie.Need-returns
 returns c =
-    let s = c .before in (ap (slot (s .args .n) (s .args .width)) (c .reflected-before .ensures .0), slot-room (s .args .n) (s .args .width) (c .reflected-before .result) (s .pre .0))
+    let s = c .before .before in
+    let w = s .args .given .width in
+    (ap (slot (s .args .n) w) (c .before .reflected-before .ensures .0), slot-room (s .args .n) w (c .before .reflected-before .result) (s .pre .0))
 
 pub slot-before-spec : {M : Type 1} → statement M
 slot-before-spec = tie.close (tie.spec reflected-before-requires rem-result mul-result returns)
