@@ -6,7 +6,7 @@ use native.Mathlib.Omega.{arith}
 use lib.IntN.{ℤ}
 use lib.ListN.{length}
 use borrow.Author.Tests.{eqb-true, leb-true}
-use Rattle.questions.specs.Questions.{ceiling, ask, shape-questions}
+use Rattle.questions.specs.Questions.{ask, shape-questions}
 use Rattle.questions.proofs.Asking.{all-yes, all-yes-split, shape-is}
 use Rattle.questions.proofs.Answering.{answer-no, answer-yes, left-no, left-yes}
 use Rattle.turns.specs.Layout.{red-row, red-column}
@@ -23,10 +23,10 @@ use Rattle.update.specs.declared.UpdateAnswer.the-variants.{Accepted, Re
 use Rattle.update.proofs.Places.{second-colour}
 
 -- ---- what an accepted call knows
-pub workable : (f : Frame) (green : List ℕ) (room n : ℕ) → n ≡ ask (update-questions f green room) → n ≡ 0 → Workable (f .width) (f .height) (f .samples) green room
-workable f green room n e z =
+pub workable : (top : ℕ) (f : Frame) (green : List ℕ) (room n : ℕ) → n ≡ ask (update-questions top f green room) → n ≡ 0 → Workable (f .width) (f .height) (f .samples) green room
+workable top f green room n e z =
     let count = f .width * f .height in
-    let y = all-yes-split (shape-questions (f .width) (f .height) (f .layout)) (updating-questions count (f .samples) green room) (all-yes (update-questions f green room) tt n e z) in
+    let y = all-yes-split (shape-questions (f .width) (f .height) (f .layout)) (updating-questions top count (f .samples) green room) (all-yes (update-questions top f green room) tt n e z) in
     let s = shape-is (f .width) (f .height) (f .layout) (y .0) in
     record {
       width-from = s .width-from;
@@ -67,21 +67,21 @@ all-zero top w h a b c d mosaic green after work hw hh room {first} p q r =
     ∙ ap (zeroed w h) p ∙ zeroed-mixed top w h a b mosaic green work hw hh room
 
 -- refused and accepted
-module _ (f : Frame) (green : List ℕ) (work : List ℤ) (n : ℕ) (e : n ≡ ask (update-questions f green (length work))) where
-  pub update-no : (n ≡ 0 → ⊥) → UpdateResult f green work (Refused n) green work
+module _ (top : ℕ) (f : Frame) (green : List ℕ) (work : List ℤ) (n : ℕ) (e : n ≡ ask (update-questions top f green (length work))) where
+  pub update-no : (n ≡ 0 → ⊥) → UpdateResult top f green work (Refused n) green work
   update-no z = record {
-    answer = answer-no number-of-answer (update-questions f green (length work)) Accepted (Refused n) e z;
+    answer = answer-no number-of-answer (update-questions top f green (length work)) Accepted (Refused n) e z;
     leaves = record {
-      plane = left-no (update-questions f green (length work)) (update-list ceiling f green) green n e z;
-      buffer = left-no (update-questions f green (length work)) (zeroed (f .width) (f .height) work) work n e z;
+      plane = left-no (update-questions top f green (length work)) (update-list top f green) green n e z;
+      buffer = left-no (update-questions top f green (length work)) (zeroed (f .width) (f .height) work) work n e z;
     };
   }
 
-  pub update-yes : n ≡ 0 → {green-after : List ℕ} {work-after : List ℤ} → green-after ≡ update-list ceiling f green → work-after ≡ zeroed (f .width) (f .height) work → UpdateResult f green work Accepted green-after work-after
+  pub update-yes : n ≡ 0 → {green-after : List ℕ} {work-after : List ℤ} → green-after ≡ update-list top f green → work-after ≡ zeroed (f .width) (f .height) work → UpdateResult top f green work Accepted green-after work-after
   update-yes z p q = record {
-    answer = answer-yes number-of-answer (update-questions f green (length work)) Accepted Accepted n e z refl refl;
+    answer = answer-yes number-of-answer (update-questions top f green (length work)) Accepted Accepted n e z refl refl;
     leaves = record {
-      plane = p ∙ left-yes (update-questions f green (length work)) (update-list ceiling f green) green n e z;
-      buffer = q ∙ left-yes (update-questions f green (length work)) (zeroed (f .width) (f .height) work) work n e z;
+      plane = p ∙ left-yes (update-questions top f green (length work)) (update-list top f green) green n e z;
+      buffer = q ∙ left-yes (update-questions top f green (length work)) (zeroed (f .width) (f .height) work) work n e z;
     };
   }

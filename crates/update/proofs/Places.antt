@@ -19,17 +19,19 @@ use Rattle.integers.proofs.Lists.{tabulate-cong, tabulate-getD, length-overwrit
 use Rattle.turns.specs.Frames.{listing, plane-of}
 use Rattle.turns.proofs.Commuting.{Agree}
 use Rattle.turns.proofs.Frames.{row-inside, column-inside, place-inside as cell-inside, plane-of-listing, listing-agree}
+use Rattle.filters.specs.Bank.{Distance}
 use Rattle.lines.specs.Lines.{value}
 use Rattle.projection.specs.Projection.{projected}
 use Rattle.projection.proofs.Projection.{projected-agrees}
-use Rattle.sweep.specs.Planes.{own-plane, guide-plane, Projectable}
+use Rattle.sweep.specs.declared.Given.{Given}
+use Rattle.sweep.specs.Planes.{own-plane, guide-plane, Projectable, with-projected}
 use Rattle.work_buffer.specs.Places.{places, place, sample, put, Narrow, Workable}
 use Rattle.work_buffer.specs.Buffer.{with-plane}
-use Rattle.work_buffer.proofs.Buffer.{with-plane-at, clipped-sample, narrow-plane}
+use Rattle.work_buffer.proofs.Buffer.{with-plane-at, narrow-plane}
 use Rattle.work_buffer.proofs.Places.{length-put, place-inside, small-inside, row-place, small-place, nearer-in-list, put-colour}
 use Rattle.update.specs.Update.{small-plane, mixed, put-mixed}
 use Rattle.update.specs.Places.{small-mixed, with-mixed}
-use Rattle.update.proofs.Mixing.{mixed-projected, own-mixed, put-mixed-own}
+use Rattle.update.proofs.Mixing.{mixed-projected, mixed-bound, own-mixed, put-mixed-own}
 
 -- ---- what is projected
 -- is what is mixed, with the limit 0
@@ -37,17 +39,10 @@ projected-mixed : (top w h : ℕ) (green colour : ℕ → ℕ → ℤ) (r c : �
 unfolding projected
 projected-mixed top w h green colour r c = sym (clamp-sample top _ .1) ∙ ap pos (sym (mixed-projected top w h green colour r c))
 
--- laid down, it may be narrowed
-pub projected-narrow : (limit : ℤ) (top w h : ℕ) (guide own : ℕ → ℕ → ℤ) (l : List ℤ) {laid : List ℤ} → top ≤ 65535 → w * h ≤ length l
-    → laid ≡ overwrite l 0 (w * h) (λ k. projected limit (pos 0) (pos top) w h guide own (k / w) (k % w)) → Narrow laid 0 (w * h)
-unfolding projected with-plane
-projected-narrow limit top w h guide own l small room e =
-    narrow-plane w h l room (projected limit (pos 0) (pos top) w h guide own) e (λ r c hr hc. let s = clipped-sample top _ in (s .0, omega (arith, s .1, small)))
-
 -- ---- a colour's places
 -- the guide is the small plane
-guide-small : (w a b : ℕ) (s : List ℕ) (i j : ℕ) → guide-plane s (a * w + b) (2 * w) 2 i j ≡ small-plane a b (λ r c. pos (plane-of 0 w s r c)) i j
-unfolding guide-plane small-plane plane-of
+guide-small : (w a b : ℕ) (s : List ℕ) (i j : ℕ) → pos (getD s (a * w + b + i * (2 * w) + j * 2) 0) ≡ small-plane a b (λ r c. pos (plane-of 0 w s r c)) i j
+unfolding small-plane plane-of
 guide-small w a b s i j = ap (λ (n : ℕ). pos (getD s n 0)) (same (small-place w a b i j))
   where
     same : a * w + b + i * (2 * w) + 2 * j ≡ (2 * i + a) * w + (2 * j + b) → a * w + b + i * (2 * w) + j * 2 ≡ (2 * i + a) * w + (2 * j + b)
@@ -65,12 +60,16 @@ module _ (w h a b : ℕ) (ha : a < 2) (hb : b < 2) where
   abbrev at-place : ℕ → ℕ
   at-place = place (a * w + b) (2 * w) columns
 
+  -- what the projection is given, of a guide that stands where it may
+  abbrev pub given : ℕ → ℕ → ℕ → ℤ → ℤ → Given
+  given from down across limit most = record { at = 0; from = from; down = down; across = across; width = columns; height = rows; limit = limit; least = pos 0; most = most }
+
   -- ---- the work buffer
   module _ (mosaic green : List ℕ) (work : List ℤ) (room : columns * rows ≤ length work) where
     module _ {gathered : List ℤ} (e : gathered ≡ overwrite work 0 (columns * rows) (λ k. sample green (at-place k))) where
       -- the gathered numbers are green's small plane
-      gathered-small : Agree columns rows (own-plane gathered 0 columns) (small-plane a b (λ r c. pos (plane-of 0 w green r c)))
-      unfolding own-plane sample
+      gathered-small : Agree columns rows (λ i j. value gathered (0 + (i * columns + j))) (small-plane a b (λ r c. pos (plane-of 0 w green r c)))
+      unfolding sample
       gathered-small i j hi hj =
           ap (λ (l : List ℤ). value l (0 + (i * columns + j))) e
           ∙ overwrite-in work 0 (columns * rows) (λ k. sample green (at-place k)) (i * columns + j) (pos 0) (omega arith) (cell-inside hi hj)
@@ -78,14 +77,17 @@ module _ (w h a b : ℕ) (ha : a < 2) (hb : b < 2) where
           ∙ (unfold small-plane plane-of in refl)
 
       -- they may be projected
-      pub projectable : Workable w h mosaic green (length work) → ((k : ℕ) → getD mosaic k 0 ≤ 65535) → ((k : ℕ) → getD green k 0 ≤ 65535) → (from down across : ℕ) → from ≤ a * w + b → down ≤ 2 * w → across ≤ 2
-          → Projectable gathered 0 mosaic from down across columns rows
+      pub projectable : Workable w h mosaic green (length work) → ((k : ℕ) → getD mosaic k 0 ≤ 65535) → ((k : ℕ) → getD green k 0 ≤ 65535) → (from down across : ℕ) (limit most : ℤ) → from ≤ a * w + b → down ≤ 2 * w → across ≤ 2 → Distance limit
+          → Projectable (given from down across limit most) gathered mosaic
       unfolding own-plane guide-plane sample places
-      projectable u sm sg from down across p q r = record {
-        width-from = omega (arith, u .width-from);
-        width-to = omega (arith, u .width-to);
-        height-from = omega (arith, u .height-from);
-        height-to = omega (arith, u .height-to);
+      projectable u sm sg from down across limit most p q r distance = record {
+        size = record {
+          width-from = omega (arith, u .width-from);
+          width-to = omega (arith, u .width-to);
+          height-from = omega (arith, u .height-from);
+          height-to = omega (arith, u .height-to);
+        };
+        limit = distance;
         inside = omega (arith, room, ap length e, length-overwrite work 0 (columns * rows) (λ k. sample green (at-place k)) (omega arith));
         small = λ k hk. omega (arith, bound k hk);
         guide-inside = λ i j hi hj. omega (arith, nearer-in-list w h a b ha hb from down across i j p q r hi hj, u .samples);
@@ -96,10 +98,8 @@ module _ (w h a b : ℕ) (ha : a < 2) (hb : b < 2) where
           bound k hk = subst (λ (z : ℤ). natAbs z ≤ 65535) (sym (ap (λ (l : List ℤ). value l (0 + k)) e ∙ overwrite-in work 0 (columns * rows) (λ k. sample green (at-place k)) k (pos 0) (omega arith) hk)) (sg (at-place k))
 
       -- the projection leaves what is to be put
-      pub mixed-laid : (top : ℕ) {laid : List ℤ}
-          → laid ≡ overwrite gathered 0 (columns * rows) (λ k. projected (pos 0) (pos 0) (pos top) columns rows (guide-plane mosaic (a * w + b) (2 * w) 2) (own-plane gathered 0 columns) (k / columns) (k % columns))
-          → laid ≡ with-mixed top w h a b mosaic green work
-      unfolding with-mixed with-plane small-mixed
+      pub mixed-laid : (top : ℕ) {laid : List ℤ} → laid ≡ with-projected (given (a * w + b) (2 * w) 2 (pos 0) (pos top)) gathered mosaic → laid ≡ with-mixed top w h a b mosaic green work
+      unfolding with-projected with-mixed with-plane small-mixed own-plane guide-plane
       mixed-laid top q =
           q ∙ overwrite-cong gathered 0 (columns * rows) _ new (λ k hk. at (k / columns) (k % columns) (row-inside columns rows k hk) (column-inside columns rows k hk))
           ∙ ap (λ (l : List ℤ). overwrite l 0 (columns * rows) new) e ∙ overwrite-again (pos 0) work 0 (columns * rows) (columns * rows) _ new (omega arith) (omega arith)
@@ -114,7 +114,7 @@ module _ (w h a b : ℕ) (ha : a < 2) (hb : b < 2) where
           colour = small-plane a b (λ r c. pos (plane-of 0 w mosaic r c))
 
           at : (i j : ℕ) → i < rows → j < columns
-              → projected (pos 0) (pos 0) (pos top) columns rows (guide-plane mosaic (a * w + b) (2 * w) 2) (own-plane gathered 0 columns) i j ≡ pos (mixed top columns rows own colour i j)
+              → projected (pos 0) (pos 0) (pos top) columns rows (λ r c. pos (getD mosaic (a * w + b + r * (2 * w) + c * 2) 0)) (λ r c. value gathered (0 + (r * columns + c))) i j ≡ pos (mixed top columns rows own colour i j)
           at i j hi hj =
               projected-agrees (pos 0) (pos 0) (pos top) columns rows _ colour _ own (λ r c hr hc. guide-small w a b mosaic r c) gathered-small i j hi hj
               ∙ projected-mixed top columns rows own colour i j
@@ -124,6 +124,15 @@ module _ (w h a b : ℕ) (ha : a < 2) (hb : b < 2) where
       laid-at : (k : ℕ) → k < columns * rows → value laid k ≡ pos (small-mixed top w h a b mosaic green (k / columns) (k % columns))
       unfolding with-mixed
       laid-at k hk = ap (λ (l : List ℤ). value l k) e ∙ with-plane-at columns rows work room (λ i j. pos (small-mixed top w h a b mosaic green i j)) k hk
+
+      -- they are samples
+      small-bound : (r c : ℕ) → small-mixed top w h a b mosaic green r c ≤ top
+      unfolding small-mixed
+      small-bound r c = mixed-bound top columns rows _ _ r c
+
+      pub mixed-narrow : top ≤ 65535 → Narrow laid 0 (columns * rows)
+      unfolding with-mixed
+      mixed-narrow few = narrow-plane columns rows work room (λ i j. pos (small-mixed top w h a b mosaic green i j)) e (λ r c hr hc. (tt, omega (arith, small-bound r c, few)))
 
       -- put back, they are the update of these places
       pub green-laid : {after : List ℕ} → length green ≡ w * h → after ≡ put green (columns * rows) at-place (λ k. natAbs (value laid k))

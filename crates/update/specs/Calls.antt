@@ -5,7 +5,7 @@ use Prim.Native.Nat.{ℕ, _*_}
 use lib.Dec.{eqb, leb}
 use lib.IntN.{ℤ}
 use lib.ListN.{length}
-use Rattle.questions.specs.Questions.{Question, question, ceiling, all-at-most, shape-questions, samples-question}
+use Rattle.questions.specs.Questions.{Question, question, all-at-most, shape-questions, samples-question}
 use Rattle.questions.specs.Answers.{Answered, if-accepted}
 use Rattle.turns.specs.Frames.{Frame, listing, plane-of}
 use Rattle.work_buffer.specs.Buffer.{zeroed}
@@ -14,14 +14,14 @@ use Rattle.update.specs.declared.UpdateAnswer.{UpdateAnswer}
 use Rattle.update.specs.declared.UpdateAnswer.the-variants as update-answer
 
 -- ---- the questions, in document 01's order
--- 6 of mosaic and green, 8, 9, and 10 of green, where a plane has `count` samples
-abbrev pub updating-questions : ℕ → List ℕ → List ℕ → ℕ → List Question
-updating-questions count mosaic green room =
-    question 6 (eqb (length mosaic) count) ∷ question 6 (eqb (length green) count) ∷ question 8 (leb (8 * count) room) ∷ samples-question ceiling mosaic ∷ question 10 (all-at-most ceiling green) ∷ []
+-- 6 of mosaic and green, 8, 9, and 10 of green, where a plane has `count` samples up to `top`
+abbrev pub updating-questions : ℕ → ℕ → List ℕ → List ℕ → ℕ → List Question
+updating-questions top count mosaic green room =
+    question 6 (eqb (length mosaic) count) ∷ question 6 (eqb (length green) count) ∷ question 8 (leb (8 * count) room) ∷ samples-question top mosaic ∷ question 10 (all-at-most top green) ∷ []
 
 -- 1, 2 and 3, and then those
-abbrev pub update-questions : Frame → List ℕ → ℕ → List Question
-update-questions f green room = shape-questions (f .width) (f .height) (f .layout) ++ updating-questions (f .width * f .height) (f .samples) green room
+abbrev pub update-questions : ℕ → Frame → List ℕ → ℕ → List Question
+update-questions top f green room = shape-questions (f .width) (f .height) (f .layout) ++ updating-questions top (f .width * f .height) (f .samples) green room
 
 -- document 01's number of an answer
 abbrev pub number-of-answer : UpdateAnswer → ℕ
@@ -35,11 +35,11 @@ update-list top f green =
     listing (f .width) (f .height) (update top (f .width) (f .height) (f .layout) (λ r c. (plane-of 0 (f .width) (f .samples) r c, plane-of 0 (f .width) green r c)))
 
 -- the update call, given frame f, a green plane that held `green`, and a work buffer that held `work`: what the two hold after
-pub record UpdateLeaves (f : Frame) (green : List ℕ) (work : List ℤ) (green-after : List ℕ) (work-after : List ℤ) : Type 0 where
-  pub plane : green-after ≡ if-accepted (update-questions f green (length work)) (update-list ceiling f green) green
-  pub buffer : work-after ≡ if-accepted (update-questions f green (length work)) (zeroed (f .width) (f .height) work) work
+pub record UpdateLeaves (top : ℕ) (f : Frame) (green : List ℕ) (work : List ℤ) (green-after : List ℕ) (work-after : List ℤ) : Type 0 where
+  pub plane : green-after ≡ if-accepted (update-questions top f green (length work)) (update-list top f green) green
+  pub buffer : work-after ≡ if-accepted (update-questions top f green (length work)) (zeroed (f .width) (f .height) work) work
 
 -- and its answer r
-pub record UpdateResult (f : Frame) (green : List ℕ) (work : List ℤ) (r : UpdateAnswer) (green-after : List ℕ) (work-after : List ℤ) : Type 0 where
-  pub answer : Answered number-of-answer (update-questions f green (length work)) update-answer.Accepted r
-  pub leaves : UpdateLeaves f green work green-after work-after
+pub record UpdateResult (top : ℕ) (f : Frame) (green : List ℕ) (work : List ℤ) (r : UpdateAnswer) (green-after : List ℕ) (work-after : List ℤ) : Type 0 where
+  pub answer : Answered number-of-answer (update-questions top f green (length work)) update-answer.Accepted r
+  pub leaves : UpdateLeaves top f green work green-after work-after

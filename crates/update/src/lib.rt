@@ -80,8 +80,9 @@ fn scatter(work: &[i32], columns: usize, rows: usize, green: &mut [u16], from: u
 }
 
 // Green at a colour's places, which have the parities a in row and b in column. Held within 0 of the colour's details, it keeps its
-// band 1 and takes the colour's bands 2 to 4.
+// band 1 and takes the colour's bands 2 to 4; it is brought back to 0..top.
 fn update_places(
+    top: u16,
     width: usize,
     height: usize,
     a: usize,
@@ -91,20 +92,33 @@ fn update_places(
     work: &mut [i32],
 )
     requires { ⌜ Workable width height (now mosaic) (now green) (length (now work)) × (a < 2) × (b < 2) ⌝ }
-    ensures { λ _. ⌜ now (green .exit) ≡ listing width height (put-mixed ceiling width height a b (plane-of 0 width (now (mosaic .entry))) (plane-of 0 width (now (green .entry))) (plane-of 0 width (now (green .entry)))) ⌝ }
-    ensures { λ _. ⌜ now (work .exit) ≡ with-mixed ceiling width height a b (now (mosaic .entry)) (now (green .entry)) (now (work .entry)) ⌝ }
+    ensures { λ _. ⌜ now (green .exit) ≡ listing width height (put-mixed top width height a b (plane-of 0 width (now (mosaic .entry))) (plane-of 0 width (now (green .entry))) (plane-of 0 width (now (green .entry)))) ⌝ }
+    ensures { λ _. ⌜ now (work .exit) ≡ with-mixed top width height a b (now (mosaic .entry)) (now (green .entry)) (now (work .entry)) ⌝ }
 {
     let columns = (width + 1 - b) / 2;
     let rows = (height + 1 - a) / 2;
     let from = a * width + b;
     let down = 2 * width;
+    let most = top as i32;
+    let given = sweep::Given {
+        at: 0,
+        from,
+        down,
+        across: 2,
+        width: columns,
+        height: rows,
+        limit: 0,
+        least: 0,
+        most,
+    };
     gather(green, from, down, columns, rows, work);
-    sweep::project(work, 0, mosaic, from, down, 2, columns, rows, 0, 0, 4095);
+    sweep::project(work, mosaic, given);
     scatter(work, columns, rows, green, from, down);
 }
 
-// Questions 1, 2, 3, 6, 8, 9 and 10, of a work buffer that has room for so many numbers.
+// Questions 1, 2, 3, 6, 8, 9 and 10, of samples up to top and a work buffer that has room for so many numbers.
 fn update_refusal(
+    top: u16,
     width: usize,
     height: usize,
     layout: u8,
@@ -112,7 +126,7 @@ fn update_refusal(
     green: &[u16],
     room: usize,
 ) -> u32
-    ensures { λ r. ⌜ r ≡ ask (update-questions (frame width height layout (now (mosaic .entry))) (now (green .entry)) room) ⌝ }
+    ensures { λ r. ⌜ r ≡ ask (update-questions top (frame width height layout (now (mosaic .entry))) (now (green .entry)) room) ⌝ }
 {
     let number = questions::shape(width, height, layout);
     if number != 0 {
@@ -128,10 +142,10 @@ fn update_refusal(
     if room < 8 * count {
         return 8;
     }
-    if !questions::samples_within(4095, mosaic) {
+    if !questions::samples_within(top, mosaic) {
         return 9;
     }
-    if !questions::samples_within(4095, green) {
+    if !questions::samples_within(top, green) {
         return 10;
     }
     0
@@ -139,6 +153,7 @@ fn update_refusal(
 
 // Blue places and then red places, and the work buffer zeroed. Red's green is as it was: blue has the other parities.
 fn update_colours(
+    top: u16,
     width: usize,
     height: usize,
     layout: u8,
@@ -147,15 +162,24 @@ fn update_colours(
     work: &mut [i32],
 )
     requires { ⌜ Workable width height (now mosaic) (now green) (length (now work)) ⌝ }
-    ensures { λ _. ⌜ now (green .exit) ≡ update-list ceiling (frame width height layout (now (mosaic .entry))) (now (green .entry)) ⌝ }
+    ensures { λ _. ⌜ now (green .exit) ≡ update-list top (frame width height layout (now (mosaic .entry))) (now (green .entry)) ⌝ }
     ensures { λ _. ⌜ now (work .exit) ≡ zeroed width height (now (work .entry)) ⌝ }
 {
     let red_row = (layout / 2 % 2) as usize;
     let red_column = (layout % 2) as usize;
     let blue_row = 1 - red_row;
     let blue_column = 1 - red_column;
-    update_places(width, height, blue_row, blue_column, mosaic, green, work);
-    update_places(width, height, red_row, red_column, mosaic, green, work);
+    update_places(
+        top,
+        width,
+        height,
+        blue_row,
+        blue_column,
+        mosaic,
+        green,
+        work,
+    );
+    update_places(top, width, height, red_row, red_column, mosaic, green, work);
     work_buffer::zero(work, 8 * (width * height));
 }
 
@@ -168,12 +192,13 @@ pub fn update(
     green: &mut [u16],
     work: &mut [i32],
 ) -> UpdateAnswer
-    ensures { λ r. ⌜ UpdateResult (frame width height layout (now (mosaic .entry))) (now (green .entry)) (now (work .entry)) r (now (green .exit)) (now (work .exit)) ⌝ }
+    ensures { λ r. ⌜ UpdateResult ceiling (frame width height layout (now (mosaic .entry))) (now (green .entry)) (now (work .entry)) r (now (green .exit)) (now (work .exit)) ⌝ }
 {
-    let refusal = update_refusal(width, height, layout, mosaic, green, work.len());
+    let top = 4095;
+    let refusal = update_refusal(top, width, height, layout, mosaic, green, work.len());
     if refusal != 0 {
         return UpdateAnswer::Refused(refusal);
     }
-    update_colours(width, height, layout, mosaic, green, work);
+    update_colours(top, width, height, layout, mosaic, green, work);
     UpdateAnswer::Accepted
 }

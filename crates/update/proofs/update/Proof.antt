@@ -22,14 +22,14 @@ returns : tie.Need-returns
 returns c =
     let s = c .before .before .before .before .before in
     let t = c .before .update-refusal in
-    update-no (Given s) (now (s .args .green)) (now (s .args .work)) (t .result) (t .ensures) (λ z. omega (arith, z, c .if1 .taken))
+    update-no _ (Given s) (now (s .args .green)) (now (s .args .work)) (t .result) (t .ensures) (λ z. omega (arith, z, c .if1 .taken))
 
 update-colours-requires : tie.Need-update-colours-requires
 update-colours-requires c κs =
     let e = c .before .before in
     let s = e .before .before .before .before .before in
     let t = e .before .update-refusal in
-    workable (Given s) (now (s .args .green)) _ (t .result) (t .ensures) (omega (arith, e .if1 .left))
+    workable _ (Given s) (now (s .args .green)) _ (t .result) (t .ensures) (omega (arith, e .if1 .left))
 
 same-length-2 : tie.Need-same-length-2
 same-length-2 c = search needs
@@ -43,7 +43,7 @@ returns-2 c =
     let e = done .before .before .before in
     let s = e .before .before .before .before .before in
     let t = e .before .update-refusal in
-    update-yes (Given s) (now (s .args .green)) (now (s .args .work)) (t .result) (t .ensures) (omega (arith, e .if1 .left)) (done .update-colours .ensures .0) (done .update-colours .ensures .1)
+    update-yes _ (Given s) (now (s .args .green)) (now (s .args .work)) (t .result) (t .ensures) (omega (arith, e .if1 .left)) (done .update-colours .ensures .0) (done .update-colours .ensures .1)
 
 pub update-spec : {M : Type 1} → statement M
 update-spec =

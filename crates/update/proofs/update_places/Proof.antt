@@ -1,15 +1,21 @@
 -- `update::update_places` meets its contract: green at the places is gathered, projected on the colour, and put back.
 -- Assumes nothing.
-use Prim.Native.Nat.{_*_, _≤_}
+use mathlib.Core.Path.{_≡_, _∙_}
+use Prim.Native.Nat.{_+_, _*_, _≤_}
 use native.Mathlib.Nat.{mul-le-mul-right}
 use native.Mathlib.Omega.{arith}
+use lib.IntN.{pos}
 use lib.ListN.{length}
 use denote.Ref.{now}
+use mir.Syntax.{w32}
+use mir.Val.{toZ}
+use mir.Facts.{toZ-pos}
 use borrow.Author.Needs.{needs}
-use Rattle.questions.specs.Questions.{ceiling}
+use Rattle.sweep.specs.Planes.{with-projected}
 use Rattle.work_buffer.specs.Places.{places}
 use Rattle.work_buffer.proofs.Places.{few-places, small-rows}
-use Rattle.update.proofs.Places.{projected-narrow, projectable, mixed-laid, green-laid}
+use Rattle.update.specs.Places.{with-mixed}
+use Rattle.update.proofs.Places.{given, projectable, mixed-laid, mixed-narrow, green-laid}
 use Rattle.update.proofs.update_places.Statement.{statement}
 use Rattle.update.proofs.update_places.Tie as tie
 
@@ -38,6 +44,9 @@ add-from c = let s = c .before .before in record { fits = omega (arith, near s, 
 mul-down : tie.Need-mul-down
 mul-down c = search needs
 
+cast-most : tie.Need-cast-most
+cast-most c = search needs
+
 -- the small plane has room in the work buffer
 room : (s : tie.Start)
     → let a = s .args in places (a .width) (a .b) * places (a .height) (a .a) ≤ length (now (a .work))
@@ -54,26 +63,41 @@ gather-requires c κs =
     let u = s .pre .0 in
     (small-rows (a .width) (a .height) (a .a) (a .b) (s .pre .1) (s .pre .2) (now (a .green)) (u .greens) (u .width-from) _ _ (omega arith) (omega arith), room s)
 
+-- ---- the places before the projection
+abbrev gathered : tie.After-project-arg → tie.After-gather
+gathered c = c .before .before
+
+abbrev begun : tie.After-gather → tie.Start
+begun g = g .before .before .before .before .before
+
 project-requires : tie.Need-project-requires
 unfolding places
 project-requires c κs =
-    let g = c .before .before in
+    let g = gathered c in
     let k = g .before .before .before in
-    let s = k .before .before in
-    let a = s .args in (
-      record { sign = tt; small = omega arith },
-      projectable (a .width) (a .height) (a .a) (a .b) (s .pre .1) (s .pre .2) (now (a .mosaic)) (now (a .green)) (now (a .work)) (room s) (g .gather .ensures) (s .pre .0) (λ i. omega (arith, k .before .shared-slice-known .given i)) (λ i. omega (arith, k .slice-known .given i)) _ _ _ (omega arith) (omega arith) (omega arith),
-    )
+    let s = begun g in
+    let a = s .args in
+    projectable (a .width) (a .height) (a .a) (a .b) (s .pre .1) (s .pre .2) (now (a .mosaic)) (now (a .green)) (now (a .work)) (room s) (g .gather .ensures) (s .pre .0) (λ i. omega (arith, k .before .shared-slice-known .given i)) (λ i. omega (arith, k .slice-known .given i)) _ _ _ _ _ (omega arith) (omega arith) (omega arith) (record { sign = tt; small = omega arith })
+
+-- what the projection leaves
+mixed : (p : tie.After-project) → let a = begun (gathered (p .before)) .args in p .project .last .0 ≡ with-mixed (a .top) (a .width) (a .height) (a .a) (a .b) (now (a .mosaic)) (now (a .green)) (now (a .work))
+unfolding places
+mixed p =
+    let g = gathered (p .before) in
+    let s = begun g in
+    let a = s .args in
+    let most : toZ w32 (a .top) ≡ pos (a .top) = toZ-pos w32 (omega arith) in
+    mixed-laid (a .width) (a .height) (a .a) (a .b) (s .pre .1) (s .pre .2) (now (a .mosaic)) (now (a .green)) (now (a .work)) (room s) (g .gather .ensures) (a .top)
+    (p .project .ensures ∙ (λ j. with-projected (given (a .width) (a .height) (a .a) (a .b) (s .pre .1) (s .pre .2) (a .a * a .width + a .b) (2 * a .width) 2 (pos 0) (most j)) (g .gather .last .1 .1 .1 .1 .1 .0) (now (a .mosaic))))
 
 scatter-requires : tie.Need-scatter-requires
 unfolding places
 scatter-requires c κs =
     let p = c .before .before .before in
-    let g = p .before .before .before in
-    let s = g .before .before .before .before .before in
+    let s = begun (gathered (p .before)) in
     let a = s .args in
     let u = s .pre .0 in (
-      projected-narrow _ _ _ _ _ _ _ (omega arith) (omega (arith, room s, g .gather .kept)) (p .project .ensures),
+      mixed-narrow (a .width) (a .height) (a .a) (a .b) (s .pre .1) (s .pre .2) (now (a .mosaic)) (now (a .green)) (now (a .work)) (room s) (a .top) (mixed p) (omega arith),
       small-rows (a .width) (a .height) (a .a) (a .b) (s .pre .1) (s .pre .2) (now (a .green)) (u .greens) (u .width-from) _ _ (omega arith) (omega arith),
     )
 
@@ -86,13 +110,11 @@ same-length-2 c = search needs
 returns : tie.Need-returns
 unfolding places
 returns c =
-    let p = c .before .before .before .before .before .before in
-    let g = p .before .before .before in
-    let s = g .before .before .before .before .before in
+    let o = c .before .before in
+    let p = o .before .before .before .before in
+    let s = begun (gathered (p .before)) in
     let a = s .args in
-    let m = now (a .mosaic) in
-    let laid = mixed-laid (a .width) (a .height) (a .a) (a .b) (s .pre .1) (s .pre .2) m (now (a .green)) (now (a .work)) (room s) (g .gather .ensures) ceiling (p .project .ensures) in
-    (green-laid (a .width) (a .height) (a .a) (a .b) (s .pre .1) (s .pre .2) m (now (a .green)) (now (a .work)) (room s) ceiling laid (s .pre .0 .greens) (c .before .before .scatter .ensures), laid)
+    (green-laid (a .width) (a .height) (a .a) (a .b) (s .pre .1) (s .pre .2) (now (a .mosaic)) (now (a .green)) (now (a .work)) (room s) (a .top) (mixed p) (s .pre .0 .greens) (o .scatter .ensures), mixed p)
 
 pub update-places-spec : {M : Type 1} → statement M
 update-places-spec =
@@ -105,6 +127,7 @@ update-places-spec =
     mul-from
     add-from
     mul-down
+    cast-most
     gather-requires
     project-requires
     scatter-requires
