@@ -2,7 +2,7 @@
 use mathlib.Core.Path.{_≡_, refl, sym, _∙_, ap, subst}
 use mathlib.Core.Bool.{cond, _&&_}
 use mathlib.Core.List.{List}
-use Prim.Native.Nat.{ℕ, _+_, _*_, _/_, _%_, _≤_, _<_}
+use Prim.Native.Nat.{ℕ, _+_, _*_, _%_, _≤_, _<_}
 use native.Mathlib.Nat.{zero-add}
 use native.Mathlib.Numerals.{add-one}
 use native.Mathlib.Omega.{arith}
@@ -15,10 +15,12 @@ use Rattle.integers.proofs.Lists.{tabulate-cong}
 use Rattle.turns.specs.Frames.{listing, plane-of}
 use Rattle.turns.proofs.Commuting.{Agree}
 use Rattle.turns.proofs.Frames.{place-inside}
+use Rattle.filters.specs.Bank.{Distance}
 use Rattle.lines.specs.Lines.{value}
 use Rattle.projection.specs.Projection.{projected}
 use Rattle.projection.proofs.Projection.{projected-agrees}
-use Rattle.sweep.specs.Planes.{own-plane, guide-plane, Projectable}
+use Rattle.sweep.specs.Planes.{own-plane, guide-plane, Projectable, with-projected}
+use Rattle.sweep.specs.declared.Given.{Given}
 use Rattle.work_buffer.specs.Places.{places, place, sample, put, Narrow, Workable}
 use Rattle.work_buffer.specs.Buffer.{with-plane}
 use Rattle.work_buffer.proofs.Buffer.{length-with-plane, with-plane-at, plane-with, with-plane-agree, with-plane-again, with-own-plane, loaded, put-samples, SampleTo, narrow-plane}
@@ -27,29 +29,30 @@ use Rattle.rounds.specs.Colours.{round-of}
 use Rattle.rounds.specs.declared.Colour.{Colour}
 use Rattle.rounds.proofs.Repeated.{projected-on-green, round-projected, round-agrees, after-rounds-agree, after-rounds-hold, kept-sample}
 
--- ---- the planes that the projection is given
+-- ---- what the projection is given
+abbrev pub given : ℕ → ℕ → ℤ → ℤ → Given
+given w h limit most = record { at = 0; from = 0; down = w; across = 1; width = w; height = h; limit = limit; least = pos 0; most = most }
+
 -- the working plane, first in its list
-own-first : (work : List ℤ) (w r c : ℕ) → own-plane work 0 w r c ≡ plane-of (pos 0) w work r c
+own-first : (work : List ℤ) (w h : ℕ) (limit most : ℤ) (r c : ℕ) → own-plane (given w h limit most) work r c ≡ plane-of (pos 0) w work r c
 unfolding own-plane plane-of
-own-first work w r c = ap (value work) (zero-add (r * w + c))
+own-first work w h limit most r c = ap (value work) (zero-add (r * w + c))
 
 -- and green, as it is
-guide-first : (green : List ℕ) (w r c : ℕ) → guide-plane green 0 w 1 r c ≡ pos (plane-of 0 w green r c)
+guide-first : (green : List ℕ) (w h : ℕ) (limit most : ℤ) (r c : ℕ) → guide-plane (given w h limit most) green r c ≡ pos (plane-of 0 w green r c)
 unfolding guide-plane plane-of
-guide-first green w r c = ap (λ (n : ℕ). pos (getD green n 0)) place
+guide-first green w h limit most r c = ap (λ (n : ℕ). pos (getD green n 0)) place
   where
     place : 0 + r * w + c * 1 ≡ r * w + c
     place = omega arith
 
 -- they may be projected
-pub projectable : (w h : ℕ) (mosaic green : List ℕ) (work : List ℤ) → Workable w h mosaic green (length work) → Narrow work 0 (w * h) → ((k : ℕ) → getD green k 0 ≤ 65535)
-    → Projectable work 0 green 0 w 1 w h
+pub projectable : (w h : ℕ) (mosaic green : List ℕ) (work : List ℤ) → Workable w h mosaic green (length work) → Narrow work 0 (w * h) → ((k : ℕ) → getD green k 0 ≤ 65535) → (limit most : ℤ) → Distance limit
+    → Projectable (given w h limit most) work green
 unfolding own-plane guide-plane
-projectable w h mosaic green work u n sg = record {
-  width-from = omega (arith, u .width-from);
-  width-to = u .width-to;
-  height-from = omega (arith, u .height-from);
-  height-to = u .height-to;
+projectable w h mosaic green work u n sg limit most distance = record {
+  size = record { width-from = omega (arith, u .width-from); width-to = u .width-to; height-from = omega (arith, u .height-from); height-to = u .height-to };
+  limit = distance;
   inside = n .inside;
   small = λ k hk. omega (arith, n .small k hk);
   guide-inside = λ r c hr hc. omega (arith, u .greens, place-inside hr hc);
@@ -71,14 +74,17 @@ module _ (k : Colour) (mosaic green : List ℕ) (work : List ℤ) (room : k .wid
   Own = plane-of (pos 0) w work
 
   -- what the projection leaves
+  abbrev G : Given
+  G = given w h (K .limit) (pos (k .top))
+
   abbrev Projected : ℕ → ℕ → ℤ
-  Projected = projected (K .limit) (pos 0) (pos (k .top)) w h (guide-plane green 0 w 1) (own-plane work 0 w)
+  Projected = projected (K .limit) (pos 0) (pos (k .top)) w h (guide-plane G green) (own-plane G work)
 
   projected-same : Agree w h Projected (projected-on-green K Own)
-  projected-same = projected-agrees (K .limit) (pos 0) (pos (k .top)) w h _ _ _ _ (λ r c hr hc. guide-first green w r c) (λ r c hr hc. own-first work w r c)
+  projected-same = projected-agrees (K .limit) (pos 0) (pos (k .top)) w h _ _ _ _ (λ r c hr hc. guide-first green w h _ _ r c) (λ r c hr hc. own-first work w h _ _ r c)
 
   -- a round: projected, and the observed samples put in
-  pub round-laid : k .row < 2 → k .column < 2 → {first second : List ℤ} → first ≡ overwrite work 0 (w * h) (λ i. Projected (i / w) (i % w))
+  pub round-laid : k .row < 2 → k .column < 2 → {first second : List ℤ} → first ≡ with-projected G work green
       → let at = place (k .row * w + k .column) (2 * w) (places w (k .column)) in second ≡ put first (places w (k .column) * places h (k .row)) at (λ i. sample mosaic (at i))
       → second ≡ with-plane w h (round K Own) work
   round-laid ha hb {first} {second} p q =
@@ -88,7 +94,7 @@ module _ (k : Colour) (mosaic green : List ℕ) (work : List ℤ) (room : k .wid
       ∙ with-plane-agree w h work room same
     where
       laid : first ≡ with-plane w h Projected work
-      laid = unfold with-plane in p
+      laid = unfold with-plane with-projected in p
 
       long : w * h ≤ length first
       long = omega (arith, room, ap length laid, length-with-plane w h work room Projected)

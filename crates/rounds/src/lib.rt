@@ -109,7 +109,18 @@ fn round(colour: Colour, mosaic: &[u16], green: &[u16], work: &mut [i32])
     let height = colour.height;
     let limit = limit_of(colour.threshold);
     let most = work_buffer::widened(colour.top);
-    sweep::project(work, 0, green, 0, width, 1, width, height, limit, 0, most);
+    let given = sweep::Given {
+        at: 0,
+        from: 0,
+        down: width,
+        across: 1,
+        width,
+        height,
+        limit,
+        least: 0,
+        most,
+    };
+    sweep::project(work, green, given);
     let first = colour.row * width + colour.column;
     let columns = (width + 1 - colour.column) / 2;
     let rows = (height + 1 - colour.row) / 2;

@@ -1,7 +1,7 @@
 -- `rounds::round` meets its contract: the working plane is projected on green, and the observed samples are put in.
 -- Assumes nothing.
 use mathlib.Core.Path.{_≡_, sym, _∙_, subst}
-use Prim.Native.Nat.{_*_, _/_, _%_, _≤_}
+use Prim.Native.Nat.{_*_, _≤_}
 use native.Mathlib.Nat.{mul-le-mul-right}
 use native.Mathlib.Omega.{arith}
 use lib.IntN.{pos}
@@ -9,15 +9,13 @@ use denote.Ref.{now}
 use mir.Syntax.{w32}
 use mir.Val.{toZ, ofZ}
 use borrow.Author.Needs.{needs}
-use Rattle.integers.specs.Lists.{overwrite}
 use Rattle.integers.proofs.Bounds.{read-is}
 use Rattle.filters.specs.Bank.{Distance}
-use Rattle.projection.specs.Projection.{projected}
-use Rattle.sweep.specs.Planes.{own-plane, guide-plane}
+use Rattle.sweep.specs.Planes.{with-projected}
 use Rattle.work_buffer.specs.Places.{places}
 use Rattle.work_buffer.proofs.Places.{small-rows}
 use Rattle.rounds.specs.Rounds.{limit-of}
-use Rattle.rounds.proofs.Working.{projectable, round-laid}
+use Rattle.rounds.proofs.Working.{given, projectable, round-laid}
 use Rattle.rounds.proofs.round.Statement.{statement}
 use Rattle.rounds.proofs.round.Tie as tie
 
@@ -48,7 +46,7 @@ project-requires : tie.Need-project-requires
 project-requires c κs =
     let s = start (c .before) in
     let a = s .args in
-    (limit-distance (c .before), projectable (a .colour .width) (a .colour .height) (now (a .mosaic)) (now (a .green)) (now (a .work)) (s .pre .0) (s .pre .3) (λ k. omega (arith, c .before .before .before .shared-slice-known2 .given k)))
+    projectable (a .colour .width) (a .colour .height) (now (a .mosaic)) (now (a .green)) (now (a .work)) (s .pre .0) (s .pre .3) (λ k. omega (arith, c .before .before .before .shared-slice-known2 .given k)) _ _ (limit-distance (c .before))
 
 -- the colour's first place is near
 near : (s : tie.Start) → s .args .colour .row * s .args .colour .width ≤ 2 * s .args .colour .width
@@ -96,7 +94,7 @@ returns c =
     let a = s .args in
     let k = a .colour in
     round-laid k (now (a .mosaic)) (now (a .green)) (now (a .work)) (omega (arith, s .pre .0 .work)) (s .pre .1) (s .pre .2)
-    (p .project .ensures ∙ (λ j. overwrite (now (a .work)) 0 (k .width * k .height) (λ i. projected (limit m j) (pos 0) (most m j) (k .width) (k .height) (guide-plane (now (a .green)) 0 (k .width) 1) (own-plane (now (a .work)) 0 (k .width)) (i / k .width) (i % k .width))))
+    (p .project .ensures ∙ (λ j. with-projected (given (k .width) (k .height) (limit m j) (most m j)) (now (a .work)) (now (a .green))))
     (c .before .observe .ensures)
 
 pub round-spec : {M : Type 1} → statement M
