@@ -29,15 +29,15 @@ minus-one-minus (suc q) = ap negsuc (omega arith)
 turned-over : (m : ℕ) → negsuc 0 -ℤ negsuc m ≡ pos m
 turned-over m = linear (pos (suc m) ∷ []) (number (negsuc 0) ⊖ neg x₀) (x₀ ⊖ number (pos 1)) tt ∙ minus-pos (suc m) 1 (omega arith) ∙ ap pos (omega arith)
 
-pub divided-below : (n : ℤ) → ltZ n (pos 0) ≡ true → negsuc 0 -ℤ quotZ (negsuc 0 -ℤ n) (pos 1024) ≡ whole-divided n 1024
+pub divided-below : (d : ℕ) (n : ℤ) → ltZ n (pos 0) ≡ true → negsuc 0 -ℤ quotZ (negsuc 0 -ℤ n) (pos d) ≡ whole-divided n d
 unfolding whole-divided
-divided-below (pos m) t = not-below m t
-divided-below (negsuc m) t = ap (λ (z : ℤ). negsuc 0 -ℤ quotZ z (pos 1024)) (turned-over m) ∙ minus-one-minus (m / 1024)
+divided-below d (pos m) t = not-below m t
+divided-below d (negsuc m) t = ap (λ (z : ℤ). negsuc 0 -ℤ quotZ z (pos d)) (turned-over m) ∙ minus-one-minus (m / d)
 
-pub divided-from : (n : ℤ) → ltZ n (pos 0) ≡ false → quotZ n (pos 1024) ≡ whole-divided n 1024
+pub divided-from : (d : ℕ) (n : ℤ) → ltZ n (pos 0) ≡ false → quotZ n (pos d) ≡ whole-divided n d
 unfolding whole-divided
-divided-from (pos m) t = refl
-divided-from (negsuc m) t = never t
+divided-from d (pos m) t = refl
+divided-from d (negsuc m) t = never t
 
 -- no difference or sum leaves the 32 bits
 pub record Positive (z : ℤ) : Type 0 where

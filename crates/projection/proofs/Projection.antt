@@ -4,12 +4,12 @@ use mathlib.Core.Path.{_≡_, refl, sym, _∙_, ap}
 use mathlib.Core.List.{[], _∷_}
 use Prim.Native.Nat.{ℕ, _<_}
 use lib.IntN.{ℤ, pos, negsuc, negℤ, _+ℤ_, _-ℤ_, _*ℤ_, +ℤ-comm, +ℤ-idr, -ℤ-+ℤ-cancel}
-use Rattle.integers.specs.Numbers.{rounded, clamp}
+use Rattle.integers.specs.Numbers.{clamp}
 use Rattle.integers.proofs.Products.{minus-one-*ℤ}
 use Rattle.integers.proofs.Linear.{linear, x₀, x₁, x₂, _⊕_, _⊖_}
 use Rattle.integers.proofs.Clamping.{clamp-moved}
 use Rattle.turns.proofs.Commuting.{Agree, Commutes, same, composed, paired, pointwise}
-use Rattle.filters.specs.Bank.{Bands, split, join}
+use Rattle.filters.specs.Bank.{Bands, split, join, rescaled}
 use Rattle.filters.proofs.Linearity.{add-bands, times-bands, split-add, split-times, join-add, join-times}
 use Rattle.filters.proofs.Reconstruction.{reconstruct}
 use Rattle.filters.proofs.Turned.{exchange-bands, split-commutes, join-commutes}
@@ -85,12 +85,12 @@ held-sum-commutes limit d =
     (join-commutes d)
 
 -- so does the projection
-pub projected-commutes : (limit low high : ℤ) → Commutes {A = ℤ × ℤ} {B = ℤ} same same (λ w h l p. projected limit low high w h (λ i j. p i j .0) (λ i j. p i j .1))
+pub projected-commutes : (limit least most : ℤ) → Commutes {A = ℤ × ℤ} {B = ℤ} same same (λ w h l p. projected limit least most w h (λ i j. p i j .0) (λ i j. p i j .1))
 unfolding projected
-projected-commutes limit low high = composed (held-sum-commutes limit 1) (pointwise same same (λ z. clamp low high (rounded 1024 z)) (λ z. refl))
+projected-commutes limit least most = composed (held-sum-commutes limit 1) (pointwise same same (rescaled 1024 least most) (λ z. refl))
 
 -- guides and planes that agree inside have projections that agree inside
-pub projected-agrees : (limit low high : ℤ) (w h : ℕ) (guide guide' own own' : ℕ → ℕ → ℤ) → Agree w h guide guide' → Agree w h own own'
-    → Agree w h (projected limit low high w h guide own) (projected limit low high w h guide' own')
-projected-agrees limit low high w h guide guide' own own' e f =
-    projected-commutes limit low high .agrees w h 0 (λ i j. (guide i j, own i j)) (λ i j. (guide' i j, own' i j)) (λ r c hr hc. λ m. (e r c hr hc m, f r c hr hc m))
+pub projected-agrees : (limit least most : ℤ) (w h : ℕ) (guide guide' own own' : ℕ → ℕ → ℤ) → Agree w h guide guide' → Agree w h own own'
+    → Agree w h (projected limit least most w h guide own) (projected limit least most w h guide' own')
+projected-agrees limit least most w h guide guide' own own' e f =
+    projected-commutes limit least most .agrees w h 0 (λ i j. (guide i j, own i j)) (λ i j. (guide' i j, own' i j)) (λ r c hr hc. λ m. (e r c hr hc m, f r c hr hc m))

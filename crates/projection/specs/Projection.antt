@@ -24,4 +24,4 @@ held-sum limit d w h guide own = join d w h (λ i j. hold-details limit (split d
 
 -- brought back, with the clip's ends as numbers
 unfoldable pub projected : ℤ → ℤ → ℤ → ℕ → ℕ → (ℕ → ℕ → ℤ) → (ℕ → ℕ → ℤ) → ℕ → ℕ → ℤ
-projected limit low high w h guide own r c = rescaled 1024 low high (held-sum limit 1 w h guide own r c)
+projected limit least most w h guide own r c = rescaled 1024 least most (held-sum limit 1 w h guide own r c)

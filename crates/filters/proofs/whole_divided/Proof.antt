@@ -49,11 +49,11 @@ div-result-2 c = (lit< tt, fits-abs w32 (quotZ (R (c .before)) (pos 1024)) (omeg
 returns : tie.Need-returns
 returns c =
     rw (back (sub-result-2 c), back (div-result c .1), back (sub-result c))
-    (divided-below (R (c .before)) (c .if1 .taken) ∙ ap (λ (z : ℤ). whole-divided z 1024) (same (c .before)))
+    (divided-below _ (R (c .before)) (c .if1 .taken) ∙ ap (λ (z : ℤ). whole-divided z 1024) (same (c .before)))
 
 returns-2 : tie.Need-returns-2
 returns-2 c =
-    back (div-result-2 c .1) ∙ divided-from (R (c .before)) (c .if1 .left) ∙ ap (λ (z : ℤ). whole-divided z 1024) (same (c .before))
+    back (div-result-2 c .1) ∙ divided-from _ (R (c .before)) (c .if1 .left) ∙ ap (λ (z : ℤ). whole-divided z 1024) (same (c .before))
 
 pub whole-divided-spec : {M : Type 1} → statement M
 whole-divided-spec =
