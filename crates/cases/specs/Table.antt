@@ -7,7 +7,7 @@ use Rattle.border.specs.Border.{reflect}
 use Rattle.turns.specs.Pictures.{then-another}
 use Rattle.filters.specs.Bank.{Bands}
 use Rattle.bank.specs.Calls.{split-lists, join-list}
-use Rattle.questions.specs.Questions.{ceiling}
+use Rattle.questions.specs.Settings.{ceiling, settings}
 use Rattle.turns.specs.Frames.{Planes, frame, planes}
 use Rattle.neighbourhood.specs.Place.{around, hamilton-adams}
 use Rattle.projection.specs.Projection.{held}
@@ -44,7 +44,7 @@ green-of n = pos (hamilton-adams ceiling (around (line 80 ∷ line 50 ∷ (n ∷
 -- 2 by 2, layout 0, T 0, one round, green 40 60 / 60 40, red all 100, blue all 5, mosaic 100 60 60 5
 unfoldable pub one-round : Planes (List ℕ)
 one-round =
-    rounds-lists ceiling (frame 2 2 0 (100 ∷ 60 ∷ 60 ∷ 5 ∷ [])) 1 0 (planes (100 ∷ 100 ∷ 100 ∷ 100 ∷ []) (40 ∷ 60 ∷ 60 ∷ 40 ∷ []) (5 ∷ 5 ∷ 5 ∷ 5 ∷ []))
+    rounds-lists (frame 2 2 0 (100 ∷ 60 ∷ 60 ∷ 5 ∷ [])) (settings 1 0) (planes (100 ∷ 100 ∷ 100 ∷ 100 ∷ []) (40 ∷ 60 ∷ 60 ∷ 40 ∷ []) (5 ∷ 5 ∷ 5 ∷ 5 ∷ []))
 
 unfoldable pub table : List Case
 table =

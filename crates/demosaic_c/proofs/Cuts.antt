@@ -7,12 +7,11 @@ use Prim.Native.Nat.{ℕ, zero, suc, _<_, min}
 use native.Mathlib.Omega.{arith}
 use lib.Dec.{T, leb}
 use borrow.Author.Tests.{le-leb, lt-leb, leb-true, leb-false}
-use Rattle.questions.specs.Settings.{ceiling-of}
+use Rattle.questions.specs.Settings.{settings, ceiling-of}
 use Rattle.questions.specs.Questions.{Question, question, ask, size-questions, shape-questions, settings-questions, frame-questions}
 use Rattle.questions.specs.Answers.{Numbered, if-accepted}
 use Rattle.questions.specs.declared.Settings.{Settings}
 use Rattle.questions.proofs.Asking.{AllYes, numbered, all-yes, all-yes-split}
-use Rattle.demosaic_c.specs.Pointers.{settings}
 
 -- ---- a number n, cut at `most` to b
 -- the question whether it is at most k, below `most`, is answered alike

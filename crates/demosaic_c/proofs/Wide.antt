@@ -5,7 +5,7 @@ use Prim.Native.Nat.{ℕ, _+_, _*_, min}
 use lib.Dec.{leb, eqb}
 use lib.IntN.{ℤ}
 use lib.ListN.{length, drop}
-use Rattle.questions.specs.Settings.{ceiling}
+use Rattle.questions.specs.Settings.{ceiling, settings}
 use Rattle.questions.specs.Questions.{Question, question, samples-question}
 use Rattle.questions.specs.Answers.{number-of-answer, Numbered}
 use Rattle.questions.specs.declared.Settings.{Settings}
@@ -26,7 +26,7 @@ use Rattle.rounds.specs.Calls.{planes-questions, rounds-questions, with-rounds,
 use Rattle.rounds.specs.Calls as rounds-call
 use Rattle.rounds.specs.declared.RoundsAnswer.{RoundsAnswer}
 use Rattle.finishing.specs.Calls.{with-finished, FrameResult, FinishNumber}
-use Rattle.demosaic_c.specs.Pointers.{settings, fields, LengthLeaves}
+use Rattle.demosaic_c.specs.Pointers.{fields, LengthLeaves}
 use Rattle.demosaic_c.proofs.Cuts.{shape-left, shape-number, frame-numbered}
 
 module _ (w h layout : ℕ) (samples : List ℕ) {l : ℕ} (pl : l ≡ min layout 255) where

@@ -15,10 +15,6 @@ use Rattle.turns.specs.declared.Extent.{Extent}
 use Rattle.turns.specs.declared.Extent.the-variants as extent
 
 -- ---- packets
--- settings and fields by C's numbers
-abbrev pub settings : ℕ → ℕ → Settings
-settings rounds threshold = record { rounds = rounds; threshold = threshold }
-
 abbrev pub fields : ℕ → ℕ → ℕ → Settings → Fields
 fields width height layout s = record { width = width; height = height; layout = layout; settings = s }
 

@@ -12,7 +12,7 @@ use turns::TurnedLayout;
 ghost use mathlib.Core.Path.{_≡_};
 ghost use Prim.Native.Nat.{min};
 ghost use lib.ListN.{length};
-ghost use Rattle.questions.specs.Settings.{ceiling};
+ghost use Rattle.questions.specs.Settings.{ceiling, settings};
 ghost use Rattle.questions.specs.Questions.{ask};
 ghost use Rattle.questions.specs.Answers.{Numbered};
 ghost use Rattle.packet.specs.Calls.{read-questions, mosaic-questions, write-questions, repeat-questions, MosaicLeaves, WriteLeaves};
@@ -27,7 +27,7 @@ ghost use Rattle.work_buffer.specs.Lent.{lent};
 ghost use Rattle.rounds.specs.Calls.{rounds-questions, RoundsLeaves};
 ghost use Rattle.tally.specs.Tally.{finished-after, refused-after, rounds-after};
 ghost use Rattle.finishing.specs.Calls.{FinishNumber};
-ghost use Rattle.demosaic_c.specs.Pointers.{settings, fields, shape, places-of, FieldsLeaves, LengthLeaves, RepeatLeaves, SingleLeaves, ShapeLeaves, TurnedShapeLeaves};
+ghost use Rattle.demosaic_c.specs.Pointers.{fields, shape, places-of, FieldsLeaves, LengthLeaves, RepeatLeaves, SingleLeaves, ShapeLeaves, TurnedShapeLeaves};
 
 // A packet's refusal number by the reader's questions, 0 for sound.
 #[no_mangle]

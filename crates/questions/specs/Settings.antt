@@ -1,6 +1,9 @@
--- What is read off a frame's settings. Assumes nothing.
+-- A frame's settings, and what is read off them. Assumes nothing.
 use Prim.Native.Nat.{ℕ}
 use Rattle.questions.specs.declared.Settings.{Settings}
+
+abbrev pub settings : ℕ → ℕ → Settings
+settings rounds threshold = record { rounds = rounds; threshold = threshold }
 
 -- document 01's ceiling, of a sample and of the threshold
 abbrev pub ceiling : ℕ

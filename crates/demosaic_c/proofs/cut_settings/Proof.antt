@@ -4,7 +4,7 @@ use mathlib.Core.Path.{_≡_}
 use Prim.Native.Nat.{min}
 use native.Mathlib.Omega.{arith}
 use borrow.Author.Needs.{needs}
-use Rattle.demosaic_c.specs.Pointers.{settings}
+use Rattle.questions.specs.Settings.{settings}
 use Rattle.demosaic_c.proofs.cut_settings.Statement.{statement}
 use Rattle.demosaic_c.proofs.cut_settings.Tie as tie
 
