@@ -17,6 +17,7 @@ use Rattle.filters.specs.Bank.{Taps, weighted, tap, along, along-columns, filte
 use Rattle.filters.proofs.Taps.{weighted-three}
 use Rattle.filters.proofs.Ranges.{gain}
 use Rattle.filters.proofs.Linearity.{along-cong, filtered-by-rows, join-by-rows}
+use Rattle.lines.specs.declared.Five.{Five}
 use Rattle.lines.specs.Lines.{value, Run, Runs, three, five, joined}
 use Rattle.lines.proofs.Lines.{run-laid, three-range, five-range}
 use Rattle.bank.specs.Planes.{Sizes, Plane, plane, bands-of}
@@ -40,13 +41,17 @@ pub record NearFive (w h r a b d e : ℕ) : Type 0 where
   pub is-d : d ≡ reflect h (pos r +ℤ pos 1) * w
   pub is-e : e ≡ reflect h (pos r +ℤ pos 2) * w
 
+-- where they begin
+abbrev pub starts : (w r a b d e : ℕ) → Five
+starts w r a b d e = record { a = a; b = b; c = r * w; d = d; e = e }
+
 module _ {w h r a b d e : ℕ} (near : NearFive w h r a b d e) where
   -- along the columns
-  five-columns : (l : List ℤ) (t : Taps) (c : ℕ) → five t l a b (r * w) d e c ≡ along-columns t 1 h (plane w l) r c
+  five-columns : (l : List ℤ) (t : Taps) (c : ℕ) → five t l (starts w r a b d e) c ≡ along-columns t 1 h (plane w l) r c
   unfolding five along-columns along tap plane-of
   five-columns l t c = λ m. weighted t (value l (near .is-a m + c)) (value l (near .is-b m + c)) (value l (sym (reflect-inside h r (near .inside)) m * w + c)) (value l (near .is-d m + c)) (value l (near .is-e m + c))
 
-  pub five-rows : {m : ℕ} {l : List ℤ} → Plane m l w h → (most : ℕ) → m ≤ most → Runs most l a b (r * w) d e w
+  pub five-rows : {m : ℕ} {l : List ℤ} → Plane m l w h → (most : ℕ) → m ≤ most → Runs most l (starts w r a b d e) w
   five-rows {m} {l} p most le = record {
     first = row (pos r -ℤ pos 2) a (near .is-a);
     second = row (pos r -ℤ pos 1) b (near .is-b);
@@ -99,17 +104,17 @@ module _ {w h r above below : ℕ} (near : Near w h r above below) (l : List ℤ
 -- ---- join
 module _ {w h r a b d e : ℕ} (near : NearFive w h r a b d e) where
   -- the line of two bands that the columns' filters lay down, from place 2 on
-  module _ (low high : List ℤ) (line : List ℤ) (room : 2 + w ≤ length line) {laid : List ℤ} (q : laid ≡ overwrite line 2 w (joined low high a b (r * w) d e)) where
+  module _ (low high : List ℤ) (line : List ℤ) (room : 2 + w ≤ length line) {laid : List ℤ} (q : laid ≡ overwrite line 2 w (joined low high (starts w r a b d e))) where
     pub joined-run : {m : ℕ} → Plane m low w h → Plane m high w h → (most : ℕ) → 24 * m ≤ most → Run most laid 2 w
     unfolding joined gain low-join high-join
     joined-run {m} p s most h =
         subst (λ (x : List ℤ). Run most x 2 w) (sym q)
-        (run-laid most line 2 w (joined low high a b (r * w) d e) room (λ k i. omega (arith, abs-add (five low-join low a b (r * w) d e k) (five high-join high a b (r * w) d e k), five-range low-join (five-rows near p m (le-refl m)) k i, five-range high-join (five-rows near s m (le-refl m)) k i, h)))
+        (run-laid most line 2 w (joined low high (starts w r a b d e)) room (λ k i. omega (arith, abs-add (five low-join low (starts w r a b d e) k) (five high-join high (starts w r a b d e) k), five-range low-join (five-rows near p m (le-refl m)) k i, five-range high-join (five-rows near s m (le-refl m)) k i, h)))
 
     joined-at : (k : ℕ) → k < w → value laid (2 + k) ≡ along-columns low-join 1 h (plane w low) r k +ℤ along-columns high-join 1 h (plane w high) r k
     unfolding joined
     joined-at k i =
-        ap (λ (x : List ℤ). value x (2 + k)) q ∙ overwrite-in line 2 w (joined low high a b (r * w) d e) k (pos 0) room i
+        ap (λ (x : List ℤ). value x (2 + k)) q ∙ overwrite-in line 2 w (joined low high (starts w r a b d e)) k (pos 0) room i
         ∙ (λ m. five-columns near low low-join k m +ℤ five-columns near high high-join k m)
 
     row-joined : (t : Taps) (c : ℕ) → c < w → along t 1 w (λ k. value laid (2 + k)) c ≡ along t 1 w (λ k. along-columns low-join 1 h (plane w low) r k +ℤ along-columns high-join 1 h (plane w high) r k) c
@@ -118,7 +123,7 @@ module _ {w h r a b d e : ℕ} (near : NearFive w h r a b d e) where
 
   -- the row of the joined sums
   pub sums-laid : (given : Bands (List ℤ)) (low high : List ℤ) → 2 + w ≤ length low → 2 + w ≤ length high → {low-laid high-laid : List ℤ}
-      → low-laid ≡ overwrite low 2 w (joined (given .band1) (given .band3) a b (r * w) d e) → high-laid ≡ overwrite high 2 w (joined (given .band2) (given .band4) a b (r * w) d e)
+      → low-laid ≡ overwrite low 2 w (joined (given .band1) (given .band3) (starts w r a b d e)) → high-laid ≡ overwrite high 2 w (joined (given .band2) (given .band4) (starts w r a b d e))
       → (sums : List ℤ) (at : ℕ) {last : List ℤ} → last ≡ overwrite sums at w (λ c. along low-join 1 w (λ k. value low-laid (2 + k)) c +ℤ along high-join 1 w (λ k. value high-laid (2 + k)) c)
       → last ≡ overwrite sums at w (join 1 w h (bands-of w given) r)
   sums-laid given low high p q u v sums at o =

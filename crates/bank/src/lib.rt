@@ -228,8 +228,15 @@ fn join_row(
     let here = r * width;
     let d = border::reflected(height, r + 1) * width;
     let e = border::reflected(height, r + 2) * width;
-    lines::join_lines(band1, band3, a, b, here, d, e, width, low, 2);
-    lines::join_lines(band2, band4, a, b, here, d, e, width, high, 2);
+    let starts = lines::Five {
+        a,
+        b,
+        c: here,
+        d,
+        e,
+    };
+    lines::join_lines(band1, band3, starts, width, low, 2);
+    lines::join_lines(band2, band4, starts, width, high, 2);
     lines::join_along(low, high, width, sums, here);
 }
 

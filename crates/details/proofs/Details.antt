@@ -20,12 +20,12 @@ use Rattle.integers.proofs.Linear.{linear, x₀, x₁, neg, number, _⊕_, _⊖
 use Rattle.border.specs.Border.{reflect}
 use Rattle.filters.specs.Bank.{Taps, weighted, low-split, high-split, high-join}
 use Rattle.filters.proofs.Ranges.{gain, weighted-range}
-use Rattle.lines.specs.Lines.{value, Run, three, padded}
+use Rattle.lines.specs.declared.Five.{Five}
+use Rattle.lines.specs.Lines.{value, Run, in-turn, three, padded}
 use Rattle.lines.proofs.Lines.{run-wider, read-small, three-small, three-read, three-range, padded-near, three-along, three-runs, five-runs}
 use Rattle.projection.specs.Fast.{excess, outer-part, crossed-along}
 use Rattle.projection.proofs.Parts.{excess-bound}
-use Rattle.details.specs.declared.Five.{Five}
-use Rattle.details.specs.Details.{Triple, outer, from-place, crossed, Crossing, in-turn}
+use Rattle.details.specs.Details.{Triple, outer, from-place, crossed, Crossing}
 
 -- ---- what lies outside a limit, by the two tests
 opposite : (limit : ℤ) → pos 0 -ℤ limit ≡ negℤ limit

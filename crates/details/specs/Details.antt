@@ -5,9 +5,9 @@ use Prim.Native.Nat.{ℕ, _+_, _*_}
 use lib.IntN.{ℤ, pos, _+ℤ_, _-ℤ_, _*ℤ_}
 use lib.ListN.{getD}
 use Rattle.filters.specs.Bank.{Taps, weighted, low-split, high-split, high-join, rescaled}
-use Rattle.lines.specs.Lines.{value, Run, three}
+use Rattle.lines.specs.declared.Five.{Five}
+use Rattle.lines.specs.Lines.{value, Run, in-turn, three}
 use Rattle.projection.specs.Fast.{excess}
-use Rattle.details.specs.declared.Five.{Five}
 
 -- ---- the difference of a plane and its guide
 -- place k of the guide's samples that stand `step` apart, from `from` on
@@ -42,20 +42,16 @@ from-place pad l k = value l (pad + k)
 -- ---- joined
 -- five values, of one list and of another in turn, through the high join taps
 unfoldable pub crossed : List ℤ → List ℤ → Five → ℕ → ℤ
-crossed x y five k =
-    weighted high-join (value x (five .a + k)) (value y (five .b + k)) (value x (five .c + k)) (value y (five .d + k)) (value x (five .e + k))
+crossed x y starts k =
+    weighted high-join (value x (starts .a + k)) (value y (starts .b + k)) (value x (starts .c + k)) (value y (starts .d + k)) (value x (starts .e + k))
 
 -- five such runs of n places
-pub record Crossing (m : ℕ) (x y : List ℤ) (five : Five) (n : ℕ) : Type 0 where
-  pub first : Run m x (five .a) n
-  pub second : Run m y (five .b) n
-  pub third : Run m x (five .c) n
-  pub fourth : Run m y (five .d) n
-  pub fifth : Run m x (five .e) n
-
--- five places next to each other
-abbrev pub in-turn : Five
-in-turn = record { a = 0; b = 1; c = 2; d = 3; e = 4 }
+pub record Crossing (m : ℕ) (x y : List ℤ) (starts : Five) (n : ℕ) : Type 0 where
+  pub first : Run m x (starts .a) n
+  pub second : Run m y (starts .b) n
+  pub third : Run m x (starts .c) n
+  pub fourth : Run m y (starts .d) n
+  pub fifth : Run m x (starts .e) n
 
 -- the joined parts of a row: along the row, from the three padded lines of parts
 unfoldable pub joined-apart : List ℤ → List ℤ → List ℤ → ℕ → ℤ

@@ -6,9 +6,9 @@ ghost use lib.ListN.{length};
 ghost use Rattle.integers.specs.Lists.{overwrite};
 ghost use Rattle.filters.specs.Bank.{Distance, low-split, high-split, high-join, along};
 ghost use Rattle.turns.specs.Filling.{InRow};
-ghost use Rattle.lines.specs.Lines.{value, Run, padded};
+ghost use Rattle.lines.specs.Lines.{value, Run, in-turn, padded};
 ghost use Rattle.projection.specs.Fast.{excess as outside, outer-part, crossed-along};
-ghost use Rattle.details.specs.Details.{difference-line, Triple, outer, outer-minus, outer-plus, from-place, in-turn, crossed, Crossing, joined-apart, joined-together, settled};
+ghost use Rattle.details.specs.Details.{difference-line, Triple, outer, outer-minus, outer-plus, from-place, crossed, Crossing, joined-apart, joined-together, settled};
 
 // A value less the guide's sample.
 fn difference(x: i32, guide: u16) -> i32
@@ -124,26 +124,17 @@ pub fn outer_along(
     outer_lines(high, limit, n, minus, plus, 2);
 }
 
-// Where five runs begin.
-pub struct Five {
-    pub a: usize,
-    pub b: usize,
-    pub c: usize,
-    pub d: usize,
-    pub e: usize,
-}
-
 // Five values, of x and of y in turn, through the high join filter.
-fn crossed_at(x: &[i32], y: &[i32], five: Five, n: usize, k: usize) -> i32
-    requires { ⌜ Crossing 134217728 (now x) (now y) five n × (k < n) ⌝ }
-    ensures { λ r. ⌜ r ≡ crossed (now (x .entry)) (now (y .entry)) five k ⌝ }
+fn crossed_at(x: &[i32], y: &[i32], starts: lines::Five, n: usize, k: usize) -> i32
+    requires { ⌜ Crossing 134217728 (now x) (now y) starts n × (k < n) ⌝ }
+    ensures { λ r. ⌜ r ≡ crossed (now (x .entry)) (now (y .entry)) starts k ⌝ }
 {
     filters::high_join(
-        x[five.a + k],
-        y[five.b + k],
-        x[five.c + k],
-        y[five.d + k],
-        x[five.e + k],
+        x[starts.a + k],
+        y[starts.b + k],
+        x[starts.c + k],
+        y[starts.d + k],
+        x[starts.e + k],
     )
 }
 
@@ -164,15 +155,15 @@ fn join_parts(
 {
     let mut k = 0;
     while k < n {
-        let five = Five {
+        let starts = lines::Five {
             a: 0,
             b: 1,
             c: 2,
             d: 3,
             e: 4,
         };
-        let p = crossed_at(parts, parts, five, n, k);
-        let q = crossed_at(minus, plus, five, n, k);
+        let p = crossed_at(parts, parts, starts, n, k);
+        let q = crossed_at(minus, plus, starts, n, k);
         apart[at + k] = q - p;
         together[at + k] = q + p;
         k += 1;
@@ -216,17 +207,17 @@ pub fn settle_line(
     at: usize,
     apart: &[i32],
     together: &[i32],
-    five: Five,
+    starts: lines::Five,
     n: usize,
     least: i32,
     most: i32,
 )
-    requires { ⌜ Run 131070 (now own) at n × Crossing 134217728 (now apart) (now together) five n ⌝ }
-    ensures { λ _. ⌜ now (own .exit) ≡ overwrite (now (own .entry)) at n (λ k. settled least most (value (now (own .entry)) (at + k)) (crossed (now (apart .entry)) (now (together .entry)) five k)) ⌝ }
+    requires { ⌜ Run 131070 (now own) at n × Crossing 134217728 (now apart) (now together) starts n ⌝ }
+    ensures { λ _. ⌜ now (own .exit) ≡ overwrite (now (own .entry)) at n (λ k. settled least most (value (now (own .entry)) (at + k)) (crossed (now (apart .entry)) (now (together .entry)) starts k)) ⌝ }
 {
     let mut k = 0;
     while k < n {
-        let sum = crossed_at(apart, together, five, n, k);
+        let sum = crossed_at(apart, together, starts, n, k);
         own[at + k] = settle(least, most, own[at + k], sum);
         k += 1;
     }

@@ -19,7 +19,8 @@ use Rattle.border.proofs.Reflection.{reflect-lt, reflect-inside}
 use Rattle.filters.specs.Bank.{Taps, weighted, tap, along, low-join, high-join}
 use Rattle.filters.proofs.Taps.{weighted-three}
 use Rattle.filters.proofs.Ranges.{gain, weighted-range}
-use Rattle.lines.specs.Lines.{value, Run, Runs, three, five, joined, meant, padded}
+use Rattle.lines.specs.declared.Five.{Five}
+use Rattle.lines.specs.Lines.{value, Run, Runs, in-turn, three, five, joined, meant, padded}
 
 -- ---- runs
 -- a value of a run, as the machine reads it
@@ -61,16 +62,16 @@ module _ (t : Taps) {m : ℕ} {l : List ℤ} {a b c n : ℕ} (ra : Run m l a n) 
   three-range = weighted-range t m _ _ _ _ _ (omega arith) (ra .small k i) (rb .small k i) (rc .small k i) (omega arith)
 
 -- ---- and five
-module _ (t : Taps) {m : ℕ} {l : List ℤ} {a b c d e n : ℕ} (r : Runs m l a b c d e n) (k : ℕ) (i : k < n) where
+module _ (t : Taps) {m : ℕ} {l : List ℤ} {v : Five} {n : ℕ} (r : Runs m l v n) (k : ℕ) (i : k < n) where
   pub five-small : (most : ℕ) → m ≤ most
-      → (natAbs (read l (a + k)) ≤ most) × (natAbs (read l (b + k)) ≤ most) × (natAbs (read l (c + k)) ≤ most) × (natAbs (read l (d + k)) ≤ most) × (natAbs (read l (e + k)) ≤ most)
+      → (natAbs (read l (v .a + k)) ≤ most) × (natAbs (read l (v .b + k)) ≤ most) × (natAbs (read l (v .c + k)) ≤ most) × (natAbs (read l (v .d + k)) ≤ most) × (natAbs (read l (v .e + k)) ≤ most)
   five-small most h = (read-small most h (r .first) k i, read-small most h (r .second) k i, read-small most h (r .third) k i, read-small most h (r .fourth) k i, read-small most h (r .fifth) k i)
 
-  pub five-read : m < 2147483648 → weighted t (read l (a + k)) (read l (b + k)) (read l (c + k)) (read l (d + k)) (read l (e + k)) ≡ five t l a b c d e k
+  pub five-read : m < 2147483648 → weighted t (read l (v .a + k)) (read l (v .b + k)) (read l (v .c + k)) (read l (v .d + k)) (read l (v .e + k)) ≡ five t l v k
   unfolding five
   five-read h = λ x. weighted t (read-value h (r .first) k i x) (read-value h (r .second) k i x) (read-value h (r .third) k i x) (read-value h (r .fourth) k i x) (read-value h (r .fifth) k i x)
 
-  pub five-range : natAbs (five t l a b c d e k) ≤ gain t * m
+  pub five-range : natAbs (five t l v k) ≤ gain t * m
   unfolding five
   five-range = weighted-range t m _ _ _ _ _ (r .first .small k i) (r .second .small k i) (r .third .small k i) (r .fourth .small k i) (r .fifth .small k i)
 
@@ -164,7 +165,7 @@ three-along t z n some l fit k h =
     at : (s : ℕ) (i : ℤ) → s + k < 1 + n + 1 → pos k +ℤ (pos s -ℤ pos 1) ≡ i → value (padded n 1 l) (s + k) ≡ X i
     at s i b e = padded-near n 1 some l fit s k i b e
 
-pub five-along : (t : Taps) (n : ℕ) → 1 ≤ n → (l : List ℤ) → 2 + n + 2 ≤ length l → (k : ℕ) → k < n → five t (padded n 2 l) 0 1 2 3 4 k ≡ along t 1 n (λ j. value l (2 + j)) k
+pub five-along : (t : Taps) (n : ℕ) → 1 ≤ n → (l : List ℤ) → 2 + n + 2 ≤ length l → (k : ℕ) → k < n → five t (padded n 2 l) in-turn k ≡ along t 1 n (λ j. value l (2 + j)) k
 unfolding five along tap
 five-along t n some l fit k h = λ m. weighted t (at 0 (pos k -ℤ pos 2) (omega arith) refl m) (at 1 (pos k -ℤ pos 1) (omega arith) refl m) (at 2 (pos k) (omega arith) (+ℤ-idr (pos k)) m) (at 3 (pos k +ℤ pos 1) (omega arith) refl m) (at 4 (pos k +ℤ pos 2) (omega arith) refl m)
   where
@@ -173,17 +174,17 @@ five-along t n some l fit k h = λ m. weighted t (at 0 (pos k -ℤ pos 2) (omega
 
 -- ---- as the calls leave them
 -- five lines through the low join filter, and then five through the high one added
-module _ {low : List ℤ} {a b c d e n : ℕ} (r : Runs 67108864 low a b c d e n) (out : List ℤ) (at : ℕ) (room : at + n ≤ length out) {first : List ℤ} (laid : first ≡ overwrite out at n (five low-join low a b c d e)) where
+module _ {low : List ℤ} {v : Five} {n : ℕ} (r : Runs 67108864 low v n) (out : List ℤ) (at : ℕ) (room : at + n ≤ length out) {first : List ℤ} (laid : first ≡ overwrite out at n (five low-join low v)) where
   pub run-first : Run 805306368 first at n
   unfolding gain low-join
-  run-first = subst (λ (l : List ℤ). Run 805306368 l at n) (sym laid) (run-laid 805306368 out at n (five low-join low a b c d e) room (λ k i. five-range low-join r k i))
+  run-first = subst (λ (l : List ℤ). Run 805306368 l at n) (sym laid) (run-laid 805306368 out at n (five low-join low v) room (λ k i. five-range low-join r k i))
 
-  pub joined-laid : (high : List ℤ) {last : List ℤ} → last ≡ overwrite first at n (λ k. value first (at + k) +ℤ five high-join high a b c d e k) → last ≡ overwrite out at n (joined low high a b c d e)
+  pub joined-laid : (high : List ℤ) {last : List ℤ} → last ≡ overwrite first at n (λ k. value first (at + k) +ℤ five high-join high v k) → last ≡ overwrite out at n (joined low high v)
   unfolding joined
   joined-laid high p =
-      p ∙ (λ m. overwrite (laid m) at n (λ k. value (laid m) (at + k) +ℤ five high-join high a b c d e k))
-      ∙ overwrite-again (pos 0) out at n n (five low-join low a b c d e) (λ k. value (overwrite out at n (five low-join low a b c d e)) (at + k) +ℤ five high-join high a b c d e k) (omega arith) room
-      ∙ overwrite-cong out at n _ _ (λ k i. ap (λ (x : ℤ). x +ℤ five high-join high a b c d e k) (overwrite-in out at n (five low-join low a b c d e) k (pos 0) room i))
+      p ∙ (λ m. overwrite (laid m) at n (λ k. value (laid m) (at + k) +ℤ five high-join high v k))
+      ∙ overwrite-again (pos 0) out at n n (five low-join low v) (λ k. value (overwrite out at n (five low-join low v)) (at + k) +ℤ five high-join high v k) (omega arith) room
+      ∙ overwrite-cong out at n _ _ (λ k i. ap (λ (x : ℤ). x +ℤ five high-join high v k) (overwrite-in out at n (five low-join low v) k (pos 0) room i))
 
 -- a padded line, and then the filters along it
 module _ {n : ℕ} (some : 1 ≤ n) (l : List ℤ) {line : List ℤ} (fit : 1 + n + 1 ≤ length l) (e : line ≡ padded n 1 l) where
@@ -194,8 +195,8 @@ module _ {n : ℕ} (some : 1 ≤ n) (l : List ℤ) {line : List ℤ} (fit : 1 + 
   split-laid t z out at p = p ∙ overwrite-cong out at n _ _ (λ k i. ap (λ (x : List ℤ). three t x 0 1 2 k) e ∙ three-along t z n some l fit k i)
 
 module _ {n : ℕ} (some : 1 ≤ n) (l : List ℤ) {line : List ℤ} (fit : 2 + n + 2 ≤ length l) (e : line ≡ padded n 2 l) where
-  pub five-runs : {m : ℕ} → Run m l 2 n → Runs m line 0 1 2 3 4 n
-  five-runs {m} r = subst (λ (x : List ℤ). Runs m x 0 1 2 3 4 n) (sym e) (record {
+  pub five-runs : {m : ℕ} → Run m l 2 n → Runs m line in-turn n
+  five-runs {m} r = subst (λ (x : List ℤ). Runs m x in-turn n) (sym e) (record {
     first = run-padded n 2 some l fit m r 0 n (omega arith);
     second = run-padded n 2 some l fit m r 1 n (omega arith);
     third = run-padded n 2 some l fit m r 2 n (omega arith);
@@ -203,5 +204,5 @@ module _ {n : ℕ} (some : 1 ≤ n) (l : List ℤ) {line : List ℤ} (fit : 2 + 
     fifth = run-padded n 2 some l fit m r 4 n (omega arith);
   })
 
-  pub five-laid : (t : Taps) (k : ℕ) → k < n → five t line 0 1 2 3 4 k ≡ along t 1 n (λ j. value l (2 + j)) k
-  five-laid t k i = ap (λ (x : List ℤ). five t x 0 1 2 3 4 k) e ∙ five-along t n some l fit k i
+  pub five-laid : (t : Taps) (k : ℕ) → k < n → five t line in-turn k ≡ along t 1 n (λ j. value l (2 + j)) k
+  five-laid t k i = ap (λ (x : List ℤ). five t x in-turn k) e ∙ five-along t n some l fit k i

@@ -7,6 +7,7 @@ use lib.ListN.{getD, length}
 use Rattle.integers.specs.Lists.{overwrite}
 use Rattle.border.specs.Border.{reflect}
 use Rattle.filters.specs.Bank.{Taps, weighted, low-join, high-join}
+use Rattle.lines.specs.declared.Five.{Five}
 
 -- the value at place k
 abbrev pub value : List ℤ → ℕ → ℤ
@@ -17,24 +18,28 @@ pub record Run (most : ℕ) (l : List ℤ) (o n : ℕ) : Type 0 where
   pub inside : o + n ≤ length l
   pub small : (k : ℕ) → k < n → natAbs (value l (o + k)) ≤ most
 
--- five runs of n places, from a, b, c, d and e on
-pub record Runs (m : ℕ) (l : List ℤ) (a b c d e n : ℕ) : Type 0 where
-  pub first : Run m l a n
-  pub second : Run m l b n
-  pub third : Run m l c n
-  pub fourth : Run m l d n
-  pub fifth : Run m l e n
+-- five runs of n places, from five places on
+pub record Runs (m : ℕ) (l : List ℤ) (starts : Five) (n : ℕ) : Type 0 where
+  pub first : Run m l (starts .a) n
+  pub second : Run m l (starts .b) n
+  pub third : Run m l (starts .c) n
+  pub fourth : Run m l (starts .d) n
+  pub fifth : Run m l (starts .e) n
 
--- three and five lines of one list, from a, b, c, d and e on, through the taps at place k
+-- five places next to each other
+abbrev pub in-turn : Five
+in-turn = record { a = 0; b = 1; c = 2; d = 3; e = 4 }
+
+-- three and five lines of one list, from as many places on, through the taps at place k
 unfoldable pub three : Taps → List ℤ → ℕ → ℕ → ℕ → ℕ → ℤ
 three t l a b c k = weighted t (pos 0) (value l (a + k)) (value l (b + k)) (value l (c + k)) (pos 0)
 
-unfoldable pub five : Taps → List ℤ → ℕ → ℕ → ℕ → ℕ → ℕ → ℕ → ℤ
-five t l a b c d e k = weighted t (value l (a + k)) (value l (b + k)) (value l (c + k)) (value l (d + k)) (value l (e + k))
+unfoldable pub five : Taps → List ℤ → Five → ℕ → ℤ
+five t l starts k = weighted t (value l (starts .a + k)) (value l (starts .b + k)) (value l (starts .c + k)) (value l (starts .d + k)) (value l (starts .e + k))
 
 -- five lines of one list through the low join taps, and of another through the high ones
-unfoldable pub joined : List ℤ → List ℤ → ℕ → ℕ → ℕ → ℕ → ℕ → ℕ → ℤ
-joined low high a b c d e k = five low-join low a b c d e k +ℤ five high-join high a b c d e k
+unfoldable pub joined : List ℤ → List ℤ → Five → ℕ → ℤ
+joined low high starts k = five low-join low starts k +ℤ five high-join high starts k
 
 -- the place of a padded line's middle that place k of it means: `pad` places stand before a line of n, and `pad` after it
 unfoldable pub meant : ℕ → ℕ → ℕ → ℕ

@@ -35,59 +35,48 @@ pub fn split_line(
     }
 }
 
+// Where five lines begin.
+pub struct Five {
+    pub a: usize,
+    pub b: usize,
+    pub c: usize,
+    pub d: usize,
+    pub e: usize,
+}
+
 // Five lines of n through the low join filter: into `out`, from `at` on.
-fn join_low(
-    source: &[i32],
-    a: usize,
-    b: usize,
-    c: usize,
-    d: usize,
-    e: usize,
-    n: usize,
-    out: &mut [i32],
-    at: usize,
-)
-    requires { ⌜ Runs 67108864 (now source) a b c d e n ⌝ }
+fn join_low(source: &[i32], starts: Five, n: usize, out: &mut [i32], at: usize)
+    requires { ⌜ Runs 67108864 (now source) starts n ⌝ }
     requires { ⌜ at + n ≤ length (now out) ⌝ }
-    ensures { λ _. ⌜ now (out .exit) ≡ overwrite (now (out .entry)) at n (five low-join (now (source .entry)) a b c d e) ⌝ }
+    ensures { λ _. ⌜ now (out .exit) ≡ overwrite (now (out .entry)) at n (five low-join (now (source .entry)) starts) ⌝ }
 {
     let mut i = 0;
     while i < n {
         out[at + i] = filters::low_join(
-            source[a + i],
-            source[b + i],
-            source[c + i],
-            source[d + i],
-            source[e + i],
+            source[starts.a + i],
+            source[starts.b + i],
+            source[starts.c + i],
+            source[starts.d + i],
+            source[starts.e + i],
         );
         i += 1;
     }
 }
 
 // Five lines of n through the high join filter: added to `out`, from `at` on.
-fn add_high(
-    source: &[i32],
-    a: usize,
-    b: usize,
-    c: usize,
-    d: usize,
-    e: usize,
-    n: usize,
-    out: &mut [i32],
-    at: usize,
-)
-    requires { ⌜ Runs 67108864 (now source) a b c d e n ⌝ }
+fn add_high(source: &[i32], starts: Five, n: usize, out: &mut [i32], at: usize)
+    requires { ⌜ Runs 67108864 (now source) starts n ⌝ }
     requires { ⌜ Run 805306368 (now out) at n ⌝ }
-    ensures { λ _. ⌜ now (out .exit) ≡ overwrite (now (out .entry)) at n (λ k. value (now (out .entry)) (at + k) +ℤ five high-join (now (source .entry)) a b c d e k) ⌝ }
+    ensures { λ _. ⌜ now (out .exit) ≡ overwrite (now (out .entry)) at n (λ k. value (now (out .entry)) (at + k) +ℤ five high-join (now (source .entry)) starts k) ⌝ }
 {
     let mut i = 0;
     while i < n {
         let high = filters::high_join(
-            source[a + i],
-            source[b + i],
-            source[c + i],
-            source[d + i],
-            source[e + i],
+            source[starts.a + i],
+            source[starts.b + i],
+            source[starts.c + i],
+            source[starts.d + i],
+            source[starts.e + i],
         );
         out[at + i] = out[at + i] + high;
         i += 1;
@@ -96,24 +85,13 @@ fn add_high(
 
 // Five lines of n of `low` through the low join filter, and of `high` through the high one, summed: into `out`, from `at` on.
 // Two loops, as one over eleven streams would not become vectors.
-pub fn join_lines(
-    low: &[i32],
-    high: &[i32],
-    a: usize,
-    b: usize,
-    c: usize,
-    d: usize,
-    e: usize,
-    n: usize,
-    out: &mut [i32],
-    at: usize,
-)
-    requires { ⌜ Runs 67108864 (now low) a b c d e n × Runs 67108864 (now high) a b c d e n ⌝ }
+pub fn join_lines(low: &[i32], high: &[i32], starts: Five, n: usize, out: &mut [i32], at: usize)
+    requires { ⌜ Runs 67108864 (now low) starts n × Runs 67108864 (now high) starts n ⌝ }
     requires { ⌜ at + n ≤ length (now out) ⌝ }
-    ensures { λ _. ⌜ now (out .exit) ≡ overwrite (now (out .entry)) at n (joined (now (low .entry)) (now (high .entry)) a b c d e) ⌝ }
+    ensures { λ _. ⌜ now (out .exit) ≡ overwrite (now (out .entry)) at n (joined (now (low .entry)) (now (high .entry)) starts) ⌝ }
 {
-    join_low(low, a, b, c, d, e, n, out, at);
-    add_high(high, a, b, c, d, e, n, out, at);
+    join_low(low, starts, n, out, at);
+    add_high(high, starts, n, out, at);
 }
 
 // The `pad` places from `from` on of a padded line of n: each takes the value of the place that it means. They lie outside the
@@ -161,5 +139,12 @@ pub fn join_along(low: &mut [i32], high: &mut [i32], n: usize, out: &mut [i32], 
 {
     pad_line(low, n, 2);
     pad_line(high, n, 2);
-    join_lines(low, high, 0, 1, 2, 3, 4, n, out, at);
+    let starts = Five {
+        a: 0,
+        b: 1,
+        c: 2,
+        d: 3,
+        e: 4,
+    };
+    join_lines(low, high, starts, n, out, at);
 }

@@ -14,11 +14,11 @@ use Rattle.integers.proofs.Bounds.{abs-add, abs-sub}
 use Rattle.turns.proofs.Frames.{row-room, overwrite-row}
 use Rattle.filters.specs.Bank.{Taps, along, low-split, high-split, high-join}
 use Rattle.filters.proofs.Ranges.{gain}
+use Rattle.lines.specs.declared.Five.{Five}
 use Rattle.lines.specs.Lines.{value, Run, three}
 use Rattle.lines.proofs.Lines.{run-wider, run-laid, three-range}
 use Rattle.projection.specs.Fast.{outer-part, crossed-along, low-parts, high-parts, apart-row, together-row}
 use Rattle.projection.proofs.Parts.{crossed-joins, along-inside, outer-inside, crossed-inside, outer-part-range}
-use Rattle.details.specs.declared.Five.{Five}
 use Rattle.details.specs.Details.{from-place, crossed, Crossing, settled}
 use Rattle.sweep.specs.declared.Given.{Given}
 use Rattle.sweep.specs.Planes.{reach, own-plane}
@@ -149,11 +149,11 @@ module _ (g : Given) (own apart together : List ℤ) (f n : ℕ) (s : Settleable
     row-to-settle = record { inside = omega (arith, long, room); small = λ k i. subst (λ (z : ℤ). natAbs z ≤ 131070) (sym (untouched k)) (s .rows r from to .small k i) }
 
     -- from the slots that code found, with the clip's ends as the machine reads them
-    module _ {five : Five} (is-five : five ≡ five-slots g r) where
-      pub rings-to-settle : Crossing 134217728 apart together five wide
+    module _ {starts : Five} (is-five : starts ≡ five-slots g r) where
+      pub rings-to-settle : Crossing 134217728 apart together starts wide
       rings-to-settle = subst (λ (v : Five). Crossing 134217728 apart together v wide) (sym is-five) (s .rings r from to)
 
-      pub row-settled : {least most : ℤ} → least ≡ g .least → most ≡ g .most → {out : List ℤ} → out ≡ overwrite m (row-at g r) wide (λ k. settled least most (value m (row-at g r + k)) (crossed apart together five k))
+      pub row-settled : {least most : ℤ} → least ≡ g .least → most ≡ g .most → {out : List ℤ} → out ≡ overwrite m (row-at g r) wide (λ k. settled least most (value m (row-at g r + k)) (crossed apart together starts k))
           → out ≡ with-settled g own apart together f (r + 1)
       row-settled {least} {most} is-least is-most q =
           overwrite-row own (row-at g f) wide (r - f) (λ i c. settled-row g own apart together (f + i) c) _ (row-at g r) q (sym before-row) (omega (arith, before-row, room)) is same
@@ -165,7 +165,7 @@ module _ (g : Given) (own apart together : List ℤ) (f n : ℕ) (s : Settleable
           here : r ≡ f + (r - f)
           here = omega arith
 
-          same : (j : ℕ) → j < wide → settled least most (value m (row-at g r + j)) (crossed apart together five j) ≡ settled-row g own apart together (f + (r - f)) j
+          same : (j : ℕ) → j < wide → settled least most (value m (row-at g r + j)) (crossed apart together starts j) ≡ settled-row g own apart together (f + (r - f)) j
           same j i =
               (λ k. settled (is-least k) (is-most k) ((untouched j ∙ ap (value own) place) k) (crossed apart together (is-five k) j))
               ∙ unfold settled-row own-plane in ap (λ (i : ℕ). settled-row g own apart together i j) here

@@ -6,9 +6,9 @@ use lib.ListN.{length}
 use Rattle.integers.specs.Lists.{overwrite}
 use Rattle.border.specs.Border.{reflect}
 use Rattle.filters.specs.Bank.{Taps, low-split, high-split}
+use Rattle.lines.specs.declared.Five.{Five}
 use Rattle.lines.specs.Lines.{Run, three}
 use Rattle.projection.specs.Fast.{apart-row, together-row}
-use Rattle.details.specs.declared.Five.{Five}
 use Rattle.details.specs.Details.{difference-line, Crossing, crossed, settled}
 use Rattle.sweep.specs.declared.Given.{Given}
 use Rattle.sweep.specs.Planes.{Sized, own-plane, reach}

@@ -46,16 +46,16 @@ fn slot_after(given: Given, n: usize, r: usize, ahead: usize) -> usize
 }
 
 // Where a ring of five slots has the rows from two before row r to two after it.
-fn five_slots(given: Given, r: usize) -> details::Five
+fn five_slots(given: Given, r: usize) -> lines::Five
     requires { ⌜ Sized given × (r < given .height) ⌝ }
-    ensures { λ five. ⌜ five ≡ five-slots given r ⌝ }
+    ensures { λ starts. ⌜ starts ≡ five-slots given r ⌝ }
 {
     let a = slot_before(given, 5, r, 2);
     let b = slot_before(given, 5, r, 1);
     let c = r % 5 * given.width;
     let d = slot_after(given, 5, r, 1);
     let e = slot_after(given, 5, r, 2);
-    details::Five { a, b, c, d, e }
+    lines::Five { a, b, c, d, e }
 }
 
 // Row r of the differences, into its slot of the ring.
@@ -125,14 +125,14 @@ fn settle_rows(
 {
     let mut r = first;
     while r < last {
-        let five = five_slots(given, r);
+        let starts = five_slots(given, r);
         let row = given.at + r * given.width;
         details::settle_line(
             own,
             row,
             apart,
             together,
-            five,
+            starts,
             given.width,
             given.least,
             given.most,

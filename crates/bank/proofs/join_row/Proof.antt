@@ -11,7 +11,7 @@ use borrow.Author.Needs.{needs}
 use Rattle.turns.proofs.Frames.{row-room}
 use Rattle.lines.specs.Lines.{Runs}
 use Rattle.bank.specs.Calls.{bands}
-use Rattle.bank.proofs.Rows.{row-small, NearFive, five-rows, joined-run, sums-laid}
+use Rattle.bank.proofs.Rows.{row-small, NearFive, starts, five-rows, joined-run, sums-laid}
 use Rattle.bank.proofs.join_row.Statement.{statement}
 use Rattle.bank.proofs.join_row.Tie as tie
 
@@ -73,11 +73,11 @@ high-room : (s : tie.Start) → 2 + s .args .width ≤ length (now (s .args .hig
 high-room s = omega arith
 
 -- five rows of each band
-abbrev Five : tie.Start → ℕ → ℕ → ℕ → ℕ → List ℤ → Type 0
-Five s a b d e l = Runs 67108864 l a b (s .args .r * s .args .width) d e (s .args .width)
+abbrev FiveRows : tie.Start → ℕ → ℕ → ℕ → ℕ → List ℤ → Type 0
+FiveRows s a b d e l = Runs 67108864 l (starts (s .args .width) (s .args .r) a b d e) (s .args .width)
 
 rows : (s : tie.Start) {a b d e : ℕ} → NearFive (s .args .width) (s .args .height) (s .args .r) a b d e
-    → Five s a b d e (now (s .args .band1)) × Five s a b d e (now (s .args .band2)) × Five s a b d e (now (s .args .band3)) × Five s a b d e (now (s .args .band4))
+    → FiveRows s a b d e (now (s .args .band1)) × FiveRows s a b d e (now (s .args .band2)) × FiveRows s a b d e (now (s .args .band3)) × FiveRows s a b d e (now (s .args .band4))
 rows s n =
     let z = s .pre .0 in
     (five-rows n (z .2) 67108864 (omega arith), five-rows n (z .3) 67108864 (omega arith), five-rows n (z .4) 67108864 (omega arith), five-rows n (z .5) 67108864 (omega arith))
@@ -105,9 +105,9 @@ join-along-requires c κs =
       (
         z .0 .width-from,
         z .0 .width-to,
-        omega (arith, first .kept .1 .1 .1 .1 .1 .1 .1 .1 .0),
+        omega (arith, first .kept .1 .1 .1 .1 .0),
         joined-run n (now (a .band1)) (now (a .band3)) (now (a .low)) (low-room s) (first .ensures) (z .2) (z .4) 67108864 (omega arith),
-        omega (arith, second .kept .1 .1 .1 .1 .1 .1 .1 .1 .0),
+        omega (arith, second .kept .1 .1 .1 .1 .0),
         joined-run n (now (a .band2)) (now (a .band4)) (now (a .high)) (high-room s) (second .ensures) (z .3) (z .5) 67108864 (omega arith),
       ),
       omega (arith, room s),

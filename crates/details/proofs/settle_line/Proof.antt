@@ -23,15 +23,15 @@ use Rattle.details.proofs.settle_line.Statement.{statement}
 use Rattle.details.proofs.settle_line.Tie as tie
 
 abbrev Inv-loop : tie.InvT-loop
-Inv-loop own₀ at apart together five n least most k₀ own k =
-    (k ≤ n) × (own ≡ overwrite own₀ at k (λ i. settled (toZ w32 least) (toZ w32 most) (value own₀ (at + i)) (crossed apart together five i))) × (length own ≡ length own₀)
+Inv-loop own₀ at apart together starts n least most k₀ own k =
+    (k ≤ n) × (own ≡ overwrite own₀ at k (λ i. settled (toZ w32 least) (toZ w32 most) (value own₀ (at + i)) (crossed apart together starts i))) × (length own ≡ length own₀)
 
 abbrev μ-loop : tie.MeasureT-loop
-μ-loop own₀ at apart together five n least most k₀ own k = n - k
+μ-loop own₀ at apart together starts n least most k₀ own k = n - k
 
 -- what is laid down, with the clip's ends as the machine reads them
 abbrev Laid : tie.Start Inv-loop μ-loop → ℕ → ℤ
-Laid s = let a = s .args in λ i. settled (toZ w32 (ofZ w32 (a .least))) (toZ w32 (ofZ w32 (a .most))) (value (now (a .own)) (a .at + i)) (crossed (now (a .apart)) (now (a .together)) (a .five) i)
+Laid s = let a = s .args in λ i. settled (toZ w32 (ofZ w32 (a .least))) (toZ w32 (ofZ w32 (a .most))) (value (now (a .own)) (a .at + i)) (crossed (now (a .apart)) (now (a .together)) (a .starts) i)
 
 -- the place that is next is as it was
 untouched : (l : tie.At-loop Inv-loop μ-loop) → let s = l .before in l .loop .k < s .args .n → value (l .loop .own) (s .args .at + l .loop .k) ≡ value (now (s .args .own)) (s .args .at + l .loop .k)
@@ -101,7 +101,7 @@ returns c =
     let s = l .before in
     let a = s .args in
     let all : l .loop .k ≡ a .n = omega arith in
-    l .loop .inv .1 ∙ (λ j. overwrite (now (a .own)) (a .at) (all j) (λ k. settled (back (s .fits .least) j) (back (s .fits .most) j) (value (now (a .own)) (a .at + k)) (crossed (now (a .apart)) (now (a .together)) (a .five) k)))
+    l .loop .inv .1 ∙ (λ j. overwrite (now (a .own)) (a .at) (all j) (λ k. settled (back (s .fits .least) j) (back (s .fits .most) j) (value (now (a .own)) (a .at + k)) (crossed (now (a .apart)) (now (a .together)) (a .starts) k)))
 
 pub settle-line-spec : {M : Type 1} → statement M
 settle-line-spec =

@@ -23,15 +23,15 @@ use Rattle.lines.proofs.add_high.Statement.{statement}
 use Rattle.lines.proofs.add_high.Tie as tie
 
 abbrev Inv-loop : tie.InvT-loop
-Inv-loop source a b c d e n out₀ at i₀ out i =
-    (i ≤ n) × (out ≡ overwrite out₀ at i (λ k. value out₀ (at + k) +ℤ five high-join source a b c d e k)) × (length out ≡ length out₀)
+Inv-loop source starts n out₀ at i₀ out i =
+    (i ≤ n) × (out ≡ overwrite out₀ at i (λ k. value out₀ (at + k) +ℤ five high-join source starts k)) × (length out ≡ length out₀)
 
 abbrev μ-loop : tie.MeasureT-loop
-μ-loop source a b c d e n out₀ at i₀ out i = n - i
+μ-loop source starts n out₀ at i₀ out i = n - i
 
 -- what is laid down
 abbrev Sum : tie.Start Inv-loop μ-loop → ℕ → ℤ
-Sum s = let a = s .args in λ k. value (now (a .out)) (a .at + k) +ℤ five high-join (now (a .source)) (a .a) (a .b) (a .c) (a .d) (a .e) k
+Sum s = let a = s .args in λ k. value (now (a .out)) (a .at + k) +ℤ five high-join (now (a .source)) (a .starts) k
 
 loop-holds : tie.Need-loop-holds Inv-loop μ-loop
 loop-holds c = (omega arith, overwrite-none (now (c .args .out)) (c .args .at) (Sum c), refl)
@@ -81,10 +81,15 @@ mul-high-join-5 c = omega arith
 shared-slice-copy-out-high-join-5 : tie.Need-shared-slice-copy-out-high-join-5 Inv-loop μ-loop
 shared-slice-copy-out-high-join-5 c = omega arith
 
+-- the turn that a call is made in
+abbrev turn : tie.After-high-join-arg5 Inv-loop μ-loop → tie.In-loop Inv-loop μ-loop
+turn c = c .before .before .before .before .before .before .before .before .before .before
+
 high-join-requires : tie.Need-high-join-requires Inv-loop μ-loop
 high-join-requires c κs =
-    let l = c .before .before .before .before .before .before in
-    five-small high-join (l .before .pre .0) (l .loop .i) (c .before .before .before .before .before .loop-test .taken) 134217728 (omega arith)
+    let t = turn c in
+    let l = t .before in
+    five-small high-join (l .before .pre .0) (l .loop .i) (t .loop-test .taken) 134217728 (omega arith)
 
 add-out : tie.Need-add-out Inv-loop μ-loop
 add-out c = omega arith
@@ -97,41 +102,41 @@ slice-copy-out-out c = omega arith
 
 -- what is still there, and the filter's sum, as the machine reads them
 there : (c : tie.After-high-join Inv-loop μ-loop)
-    → let l = c .before .before .before .before .before .before .before in
+    → let l = turn (c .before) .before in
     let a = l .before .args in value (l .loop .out) (a .at + l .loop .i) ≡ value (now (a .out)) (a .at + l .loop .i)
 there c =
-    let l = c .before .before .before .before .before .before .before in
+    let l = turn (c .before) .before in
     let s = l .before in
     let a = s .args in
     ap (λ (m : List ℤ). value m (a .at + l .loop .i)) (l .loop .inv .1) ∙ outside (now (a .out)) (a .at) (l .loop .i) (Sum s) (a .at + l .loop .i) (omega arith) (λ h. omega arith)
 
 high-is : (c : tie.After-high-join Inv-loop μ-loop)
-    → let l = c .before .before .before .before .before .before .before in
-    let a = l .before .args in toZ w32 (ofZ w32 (c .high-join .result)) ≡ five high-join (now (a .source)) (a .a) (a .b) (a .c) (a .d) (a .e) (l .loop .i)
+    → let l = turn (c .before) .before in
+    let a = l .before .args in toZ w32 (ofZ w32 (c .high-join .result)) ≡ five high-join (now (a .source)) (a .starts) (l .loop .i)
 high-is c =
-    let l = c .before .before .before .before .before .before .before in
-    read-is w32 (c .high-join .ok) (c .high-join .ensures) ∙ five-read high-join (l .before .pre .0) (l .loop .i) (c .before .before .before .before .before .before .loop-test .taken) (lit< tt)
+    let l = turn (c .before) .before in
+    read-is w32 (c .high-join .ok) (c .high-join .ensures) ∙ five-read high-join (l .before .pre .0) (l .loop .i) (turn (c .before) .loop-test .taken) (lit< tt)
 
 high-small : (c : tie.After-high-join Inv-loop μ-loop) → natAbs (toZ w32 (ofZ w32 (c .high-join .result))) ≤ 805306368
 unfolding gain high-join
 high-small c =
-    let l = c .before .before .before .before .before .before .before in
-    omega (arith, ap natAbs (high-is c), five-range high-join (l .before .pre .0) (l .loop .i) (c .before .before .before .before .before .before .loop-test .taken))
+    let l = turn (c .before) .before in
+    omega (arith, ap natAbs (high-is c), five-range high-join (l .before .pre .0) (l .loop .i) (turn (c .before) .loop-test .taken))
 
 add-out-2 : tie.Need-add-out-2 Inv-loop μ-loop
 add-out-2 c =
-    let l = c .before .before .before .before .before .before .before .before in
+    let l = turn (c .before .before) .before in
     let s = l .before in
     let x = value (l .loop .out) (s .args .at + l .loop .i) in
-    let h : natAbs x ≤ 805306368 = omega (arith, ap natAbs (there (c .before)), s .pre .1 .small (l .loop .i) (omega arith)) in
+    let h : natAbs x ≤ 805306368 = omega (arith, ap natAbs (there (c .before)), s .pre .1 .small (l .loop .i) (turn (c .before .before) .loop-test .taken)) in
     let k = high-small (c .before) in
     fits (search bounds depth 14) tt
 
-add-t29 : tie.Need-add-t29 Inv-loop μ-loop
-add-t29 c = omega arith
+add-t25 : tie.Need-add-t25 Inv-loop μ-loop
+add-t25 c = omega arith
 
-mul-t26 : tie.Need-mul-t26 Inv-loop μ-loop
-mul-t26 c = omega arith
+mul-t22 : tie.Need-mul-t22 Inv-loop μ-loop
+mul-t22 c = omega arith
 
 slice-set-from-out : tie.Need-slice-set-from-out Inv-loop μ-loop
 slice-set-from-out c = omega arith
@@ -144,13 +149,14 @@ loop-less c = omega arith
 
 loop-again : tie.Need-loop-again Inv-loop μ-loop
 loop-again c =
-    let l = c .before .before .before .before .before .before .before .before in
+    let t = turn (c .before .before) in
+    let l = t .before in
     let s = l .before in
     let a = s .args in
     let x = value (l .loop .out) (a .at + l .loop .i) in
     let same : toZ w32 (ofZ w32 x) ≡ x = search needs in (
-      omega arith,
-      overwrite-step (now (a .out)) (a .at) (l .loop .i) (Sum s) (a .at + l .loop .i) refl (l .loop .inv .1) (back (add-out-2 c) ∙ (λ m. (same ∙ there (c .before)) m +ℤ high-is (c .before) m)) (omega arith),
+      omega (arith, t .loop-test .taken),
+      overwrite-step (now (a .out)) (a .at) (l .loop .i) (Sum s) (a .at + l .loop .i) refl (l .loop .inv .1) (back (add-out-2 c) ∙ (λ m. (same ∙ there (c .before)) m +ℤ high-is (c .before) m)) (omega (arith, t .loop-test .taken, s .pre .1 .inside)),
       simp length-set (l .loop .inv .2),
     )
 
@@ -191,8 +197,8 @@ add-high-spec =
     mul-out
     slice-copy-out-out
     add-out-2
-    add-t29
-    mul-t26
+    add-t25
+    mul-t22
     slice-set-from-out
     add-i
     loop-less

@@ -18,15 +18,15 @@ use Rattle.lines.proofs.join_low.Statement.{statement}
 use Rattle.lines.proofs.join_low.Tie as tie
 
 abbrev Inv-loop : tie.InvT-loop
-Inv-loop source a b c d e n out₀ at i₀ out i =
-    (i ≤ n) × (out ≡ overwrite out₀ at i (five low-join source a b c d e)) × (length out ≡ length out₀)
+Inv-loop source starts n out₀ at i₀ out i =
+    (i ≤ n) × (out ≡ overwrite out₀ at i (five low-join source starts)) × (length out ≡ length out₀)
 
 abbrev μ-loop : tie.MeasureT-loop
-μ-loop source a b c d e n out₀ at i₀ out i = n - i
+μ-loop source starts n out₀ at i₀ out i = n - i
 
 -- what is laid down
 abbrev Low : tie.Start Inv-loop μ-loop → ℕ → ℤ
-Low s = let a = s .args in five low-join (now (a .source)) (a .a) (a .b) (a .c) (a .d) (a .e)
+Low s = let a = s .args in five low-join (now (a .source)) (a .starts)
 
 loop-holds : tie.Need-loop-holds Inv-loop μ-loop
 loop-holds c = (omega arith, overwrite-none (now (c .args .out)) (c .args .at) (Low c), refl)
@@ -76,16 +76,21 @@ mul-low-join-5 c = omega arith
 shared-slice-copy-out-low-join-5 : tie.Need-shared-slice-copy-out-low-join-5 Inv-loop μ-loop
 shared-slice-copy-out-low-join-5 c = omega arith
 
+-- the turn that a call is made in
+abbrev turn : tie.After-low-join-arg5 Inv-loop μ-loop → tie.In-loop Inv-loop μ-loop
+turn c = c .before .before .before .before .before .before .before .before .before .before
+
 low-join-requires : tie.Need-low-join-requires Inv-loop μ-loop
 low-join-requires c κs =
-    let l = c .before .before .before .before .before .before in
-    five-small low-join (l .before .pre .0) (l .loop .i) (c .before .before .before .before .before .loop-test .taken) 134217728 (omega arith)
+    let t = turn c in
+    let l = t .before in
+    five-small low-join (l .before .pre .0) (l .loop .i) (t .loop-test .taken) 134217728 (omega arith)
 
-add-t33 : tie.Need-add-t33 Inv-loop μ-loop
-add-t33 c = omega arith
+add-t29 : tie.Need-add-t29 Inv-loop μ-loop
+add-t29 c = omega arith
 
-mul-t34 : tie.Need-mul-t34 Inv-loop μ-loop
-mul-t34 c = omega arith
+mul-t30 : tie.Need-mul-t30 Inv-loop μ-loop
+mul-t30 c = omega arith
 
 slice-set-from-out : tie.Need-slice-set-from-out Inv-loop μ-loop
 slice-set-from-out c = omega arith
@@ -98,10 +103,11 @@ loop-less c = omega arith
 
 loop-again : tie.Need-loop-again Inv-loop μ-loop
 loop-again c =
-    let l = c .before .before .before .before .before .before .before in
+    let t = turn (c .before) in
+    let l = t .before in
     let s = l .before in (
       omega arith,
-      overwrite-step (now (s .args .out)) (s .args .at) (l .loop .i) (Low s) (s .args .at + l .loop .i) refl (l .loop .inv .1) (read-is w32 (c .low-join .ok) (c .low-join .ensures) ∙ five-read low-join (s .pre .0) (l .loop .i) (c .before .before .before .before .before .before .loop-test .taken) (lit< tt)) (omega arith),
+      overwrite-step (now (s .args .out)) (s .args .at) (l .loop .i) (Low s) (s .args .at + l .loop .i) refl (l .loop .inv .1) (read-is w32 (c .low-join .ok) (c .low-join .ensures) ∙ five-read low-join (s .pre .0) (l .loop .i) (t .loop-test .taken) (lit< tt)) (omega arith),
       simp length-set (l .loop .inv .2),
     )
 
@@ -138,8 +144,8 @@ join-low-spec =
     mul-low-join-5
     shared-slice-copy-out-low-join-5
     low-join-requires
-    add-t33
-    mul-t34
+    add-t29
+    mul-t30
     slice-set-from-out
     add-i
     loop-less
