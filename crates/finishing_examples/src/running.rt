@@ -3,6 +3,7 @@ use crate::frames;
 use crate::frames::Example;
 use crate::print;
 use demand_3::Numbers;
+use questions::Settings;
 
 // A line of the turns, a line of both numbers, and a line of each mosaic.
 fn print_turned(turns: &[u8], numbers: Numbers, e: Example, first: &[u16; 12], second: &[u16; 12]) {
@@ -63,13 +64,16 @@ pub(crate) fn show(turns: &[u8], e: Example) {
     let g = e.green % 13;
     let b = e.blue % 13;
     let w = e.work % 98;
+    let settings = Settings {
+        rounds: e.rounds,
+        threshold: e.threshold,
+    };
     let numbers = demand_3::finish_turned(
         turns,
         e.width,
         e.height,
         e.layout,
-        e.rounds,
-        e.threshold,
+        settings,
         &mut first[0..f],
         &mut second[0..s],
         &mut red1[0..r],

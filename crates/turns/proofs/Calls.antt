@@ -1,7 +1,7 @@
 -- What the code of the calls computes is what their definitions say. Assumes nothing.
 use mathlib.Core.Path.{_≡_, refl, sym, _∙_, ap}
 use mathlib.Core.Bool.{Bool, true, false, cond, xor}
-use mathlib.Core.List.{List}
+use mathlib.Core.List.{List, _++_}
 use Prim.Native.Nat.{ℕ, _+_, _*_, _/_, _%_, _≤_, _<_}
 use native.Mathlib.Omega.{arith}
 use lib.Dec.{leb, eqb}
@@ -14,7 +14,7 @@ use Rattle.questions.proofs.Answering.{answer-no, answer-yes, left-no, left-yes
 use Rattle.turns.specs.Layout.{red-row, red-column, with-parities}
 use Rattle.turns.specs.Pictures.{Picture, exchanged, left-right, top-bottom, flip-if-even, steps-of, if-so, turned-by, turned, followed-by, number-of-steps, then-another}
 use Rattle.turns.specs.Frames.{listing, plane-of, Frame, frame, picture-of, frame-of, turn-frame}
-use Rattle.turns.specs.Turning.{shape-turned, shape-turn-questions, turn-questions, frame-questions, number-of-frame, accepted-as, TurnResult}
+use Rattle.turns.specs.Turning.{shape-turned, shape-turn-questions, length-questions, frame-questions, number-of-frame, accepted-as, TurnResult}
 use Rattle.turns.specs.declared.TurnedFrame.the-variants.{Accepted, Refused}
 use Rattle.turns.specs.Filling.{mirror-place, source-row, source-plane}
 use Rattle.turns.proofs.Pictures.{row-lt, column-lt, row-of, column-of, parities-again, own-parities, flip-lt}
@@ -229,9 +229,9 @@ pub record Fillable (w h l given room : ℕ) : Type 0 where
   pub samples : given ≡ w * h
   pub buffer : room ≡ w * h
 
-pub fillable : (t w h l given room n : ℕ) → n ≡ ask (turn-questions t w h l given room) → n ≡ 0 → Fillable w h l given room
+pub fillable : (t w h l given room n : ℕ) → n ≡ ask (shape-turn-questions t w h l ++ length-questions (w * h) given room) → n ≡ 0 → Fillable w h l given room
 fillable t w h l given room n e z =
-    let y = all-yes (turn-questions t w h l given room) tt n e z in
+    let y = all-yes (shape-turn-questions t w h l ++ length-questions (w * h) given room) tt n e z in
     record {
       shape = shape-is w h l (y .1 .0, (y .1 .1 .0, (y .1 .1 .1 .0, tt)));
       samples = eqb-true given (w * h) (y .1 .1 .1 .1 .0);

@@ -13,7 +13,7 @@ unfoldable pub source-row : List ℕ → Bool → ℕ → ℕ → ℕ → ℕ �
 source-row samples mirror n from step j = getD samples (from + mirror-place mirror n j * step) 0
 
 -- a plane of such rows, `row-step` apart
-unfoldable pub source-plane : List ℕ → Bool → Bool → ℕ → ℕ → ℕ → ℕ → ℕ → ℕ → ℕ
+unfoldable pub source-plane : List ℕ → Bool → Bool → ℕ → ℕ → ℕ → ℕ → (ℕ → ℕ → ℕ)
 source-plane samples left-right top-bottom columns rows row-step column-step i = source-row samples left-right columns (mirror-place top-bottom rows i * row-step) column-step
 
 -- n samples from `from` on, `step` apart, lie in the list

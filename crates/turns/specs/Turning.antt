@@ -26,10 +26,9 @@ then-questions first second = question 16 (leb first 7) ∷ question 16 (leb sec
 abbrev pub shape-turn-questions : ℕ → ℕ → ℕ → ℕ → List Question
 shape-turn-questions turn width height layout = question 16 (leb turn 7) ∷ shape-questions width height layout
 
--- the turning call, of `given` samples and a second buffer of `room`: 16, 1, 2, 3, 6, 7
-abbrev pub turn-questions : ℕ → ℕ → ℕ → ℕ → ℕ → ℕ → List Question
-turn-questions turn width height layout given room =
-    shape-turn-questions turn width height layout ++ (question 6 (eqb given (width * height)) ∷ question 7 (eqb room (width * height)) ∷ [])
+-- 6 of `given` samples, and 7 of a second buffer of `room`, where a frame has `count`
+abbrev pub length-questions : ℕ → ℕ → ℕ → List Question
+length-questions count given room = question 6 (eqb given count) ∷ question 7 (eqb room count) ∷ []
 
 -- ---- document 01's number of each answer
 abbrev pub number-of-composed : Composed → ℕ
@@ -57,9 +56,9 @@ shape-turned turn width height layout = turned turn (record { width = width; hei
 abbrev pub accepted-as : Frame → TurnedFrame
 accepted-as f = turned-frame.Accepted (f .width) (f .height) (f .layout)
 
--- the turning call's questions of a frame
+-- the turning call's questions, of a frame and a second buffer of `room`: 16, 1, 2, 3, 6, 7
 abbrev pub frame-questions : ℕ → Frame → ℕ → List Question
-frame-questions turn f room = turn-questions turn (f .width) (f .height) (f .layout) (length (f .samples)) room
+frame-questions turn f room = shape-turn-questions turn (f .width) (f .height) (f .layout) ++ length-questions (f .width * f .height) (length (f .samples)) room
 
 -- the turning call, given frame f and a second buffer that held `before`: what the buffer holds `after`
 abbrev pub TurnLeaves : ℕ → Frame → List ℕ → List ℕ → Type 0

@@ -1,6 +1,7 @@
 // Document 01's turns: the turn as a value with its operations, and the turning call.
 ghost use mathlib.Core.Path.{_≡_};
 ghost use mathlib.Core.Bool.{cond};
+ghost use mathlib.Core.List.{_++_};
 ghost use Prim.Native.Nat.{ℕ, _+_, _*_, _/_, _%_, _≤_, _<_};
 ghost use lib.Dec.{eqb, leb};
 ghost use lib.ListN.{length};
@@ -9,7 +10,7 @@ ghost use Rattle.questions.specs.Questions.{ask};
 ghost use Rattle.questions.specs.Answers.{Answered};
 ghost use Rattle.turns.specs.Pictures.{flip-if-even, then-another};
 ghost use Rattle.turns.specs.Frames.{frame, listing, turn-frame};
-ghost use Rattle.turns.specs.Turning.{shape-turned, then-questions, shape-turn-questions, turn-questions, number-of-composed, number-of-extent, number-of-layout, TurnResult};
+ghost use Rattle.turns.specs.Turning.{shape-turned, then-questions, shape-turn-questions, length-questions, number-of-composed, number-of-extent, number-of-layout, TurnResult};
 ghost use Rattle.turns.specs.Filling.{mirror-place, source-row, source-plane, InRow, InPlane};
 
 // A turn, 0 to 7: 4 and more exchange rows and columns first; then 1 mirrors left-right, 2 top-bottom, 3 both.
@@ -230,7 +231,7 @@ fn fill(turn: u8, width: usize, height: usize, samples: &[u16], out: &mut [u16])
 
 // Questions 16, 1, 2, 3, 6 and 7, of `given` samples and a second buffer of `room`.
 fn turn_refusal(turn: u8, width: usize, height: usize, layout: u8, given: usize, room: usize) -> u32
-    ensures { λ r. ⌜ r ≡ ask (turn-questions turn width height layout given room) ⌝ }
+    ensures { λ r. ⌜ r ≡ ask (shape-turn-questions turn width height layout ++ length-questions (width * height) given room) ⌝ }
 {
     let number = shape_refusal(turn, width, height, layout);
     if number != 0 {
