@@ -121,11 +121,11 @@ module _ (g : Given) (r : ℕ) (ring : List ℤ) {a b : ℕ} (is-a : a ≡ slot-
   line-laid t l q = q ∙ (λ m. overwrite l 1 (g .width) (three t ring (is-a m) (slot 3 (g .width) r) (is-b m)))
 
 -- ---- rows that are settled one after another
-module _ (g : Given) (own apart together : List ℤ) (f n : ℕ) (s : Settleable g own apart together f n) where
+module _ (g : Given) (least most : ℤ) (own apart together : List ℤ) (f n : ℕ) (s : Settleable g own apart together f n) where
   abbrev wide : ℕ
   wide = g .width
 
-  module _ (r : ℕ) (from : f ≤ r) (to : r < n) {m : List ℤ} (is : m ≡ with-settled g own apart together f r) where
+  module _ (r : ℕ) (from : f ≤ r) (to : r < n) {m : List ℤ} (is : m ≡ with-settled g least most own apart together f r) where
     -- the rows below r end where row r begins
     before-row : row-at g f + (r - f) * wide ≡ row-at g r
     before-row = omega (arith, rows)
@@ -148,16 +148,16 @@ module _ (g : Given) (own apart together : List ℤ) (f n : ℕ) (s : Settleable
     pub row-to-settle : Run 131070 m (row-at g r) wide
     row-to-settle = record { inside = omega (arith, long, room); small = λ k i. subst (λ (z : ℤ). natAbs z ≤ 131070) (sym (untouched k)) (s .rows r from to .small k i) }
 
-    -- from the slots that code found, with the clip's ends as the machine reads them
+    -- from the slots that code found
     module _ {starts : Five} (is-five : starts ≡ five-slots g r) where
       pub rings-to-settle : Crossing 134217728 apart together starts wide
       rings-to-settle = subst (λ (v : Five). Crossing 134217728 apart together v wide) (sym is-five) (s .rings r from to)
 
-      pub row-settled : {least most : ℤ} → least ≡ g .least → most ≡ g .most → {out : List ℤ} → out ≡ overwrite m (row-at g r) wide (λ k. settled least most (value m (row-at g r + k)) (crossed apart together starts k))
-          → out ≡ with-settled g own apart together f (r + 1)
-      row-settled {least} {most} is-least is-most q =
-          overwrite-row own (row-at g f) wide (r - f) (λ i c. settled-row g own apart together (f + i) c) _ (row-at g r) q (sym before-row) (omega (arith, before-row, room)) is same
-          ∙ ap (λ (i : ℕ). overwrite own (row-at g f) (i * wide) (λ k. settled-row g own apart together (f + k / wide) (k % wide))) next
+      pub row-settled : {out : List ℤ} → out ≡ overwrite m (row-at g r) wide (λ k. settled least most (value m (row-at g r + k)) (crossed apart together starts k))
+          → out ≡ with-settled g least most own apart together f (r + 1)
+      row-settled q =
+          overwrite-row own (row-at g f) wide (r - f) (λ i c. settled-row g least most own apart together (f + i) c) _ (row-at g r) q (sym before-row) (omega (arith, before-row, room)) is same
+          ∙ ap (λ (i : ℕ). overwrite own (row-at g f) (i * wide) (λ k. settled-row g least most own apart together (f + k / wide) (k % wide))) next
         where
           next : r - f + 1 ≡ r + 1 - f
           next = omega arith
@@ -165,10 +165,10 @@ module _ (g : Given) (own apart together : List ℤ) (f n : ℕ) (s : Settleable
           here : r ≡ f + (r - f)
           here = omega arith
 
-          same : (j : ℕ) → j < wide → settled least most (value m (row-at g r + j)) (crossed apart together starts j) ≡ settled-row g own apart together (f + (r - f)) j
+          same : (j : ℕ) → j < wide → settled least most (value m (row-at g r + j)) (crossed apart together starts j) ≡ settled-row g least most own apart together (f + (r - f)) j
           same j i =
-              (λ k. settled (is-least k) (is-most k) ((untouched j ∙ ap (value own) place) k) (crossed apart together (is-five k) j))
-              ∙ unfold settled-row own-plane in ap (λ (i : ℕ). settled-row g own apart together i j) here
+              (λ k. settled least most ((untouched j ∙ ap (value own) place) k) (crossed apart together (is-five k) j))
+              ∙ unfold settled-row own-plane in ap (λ (i : ℕ). settled-row g least most own apart together i j) here
             where
               place : row-at g r + j ≡ g .at + (r * wide + j)
               place = omega arith

@@ -78,7 +78,7 @@ ring-laid n w some l room f lo hi r q g {l'} e at lo' hi' near from to old = rec
             same = omega arith
 
 -- ---- the planes of a projection
-module _ (g : Given) (own : List ℤ) (guide : List ℕ) where
+module _ (g : Given) (least most : ℤ) (own : List ℤ) (guide : List ℕ) where
   abbrev at : ℕ
   at = g .at
 
@@ -102,7 +102,7 @@ module _ (g : Given) (own : List ℤ) (guide : List ℕ) where
   B = together-plane limit w h D
 
   unfoldable pub settled-plane : ℕ → ℕ → ℤ
-  settled-plane r c = settled (g .least) (g .most) (own-plane g own r c) (crossed-along h (λ i. A i c) (λ i. B i c) r)
+  settled-plane r c = settled least most (own-plane g own r c) (crossed-along h (λ i. A i c) (λ i. B i c) r)
 
   -- n rows of it, laid down in the list
   abbrev pub with-rows : ℕ → List ℤ
@@ -156,7 +156,7 @@ module _ (g : Given) (own : List ℤ) (guide : List ℕ) where
 
     line-small : (t : Taps) → gain t ≤ 4 → (r c : ℕ) → c < w → natAbs (along-columns t 1 h D r c) ≤ 524280
     unfolding along-columns
-    line-small t g r c j = le-trans (along-range t 1 h reach (λ i. D i c) (p .size .height-from) (λ i k. difference-small i c k j) r) (omega (arith, mul-le-mul-right 131070 g))
+    line-small t few r c j = le-trans (along-range t 1 h reach (λ i. D i c) (p .size .height-from) (λ i k. difference-small i c k j) r) (omega (arith, mul-le-mul-right 131070 few))
 
     apart-small : (r c : ℕ) → natAbs (A r c) ≤ 75496320
     apart-small r c = apart-range limit (p .limit .sign) w 524280 (p .size .width-from) (low-line limit w h D r) (high-line limit w h D r) (λ k j. line-small low-split (four .0) r k j) (λ k j. line-small high-split (four .1) r k j) c
@@ -225,10 +225,10 @@ module _ (g : Given) (own : List ℤ) (guide : List ℕ) where
         };
       }
 
-      settled-is : (r c : ℕ) → f ≤ r → r < n → c < w → settled-row g now apart together r c ≡ settled-plane r c
+      settled-is : (r c : ℕ) → f ≤ r → r < n → c < w → settled-row g least most now apart together r c ≡ settled-plane r c
       unfolding settled-row settled-plane own-plane crossed crossed-along
       settled-is r c i j m = λ k.
-          settled (g .least) (g .most) ((ap (value now) place ∙ untouched (omega arith) is r c i (omega arith)) k)
+          settled least most ((ap (value now) place ∙ untouched (omega arith) is r c i (omega arith)) k)
           (weighted high-join (aparts .holds _ c (back-row r i j 2 (omega arith) .0) (back-row r i j 2 (omega arith) .1) m k) (togethers .holds _ c (back-row r i j 1 (omega arith) .0) (back-row r i j 1 (omega arith) .1) m k)
           ((aparts .holds r c (own-in r i j .0) (own-in r i j .1) m ∙ ap (λ (q : ℕ). A q c) (sym (reflect-inside h r (omega arith)))) k)
           (togethers .holds _ c (ahead-row r i j 1 (omega arith) .0) (ahead-row r i j 1 (omega arith) .1) m k) (aparts .holds _ c (ahead-row r i j 2 (omega arith) .0) (ahead-row r i j 2 (omega arith) .1) m k))
@@ -236,7 +236,7 @@ module _ (g : Given) (own : List ℤ) (guide : List ℕ) where
           place : at + (r * w + c) ≡ row-at g r + c
           place = omega arith
 
-      pub rows-settled : {out : List ℤ} → out ≡ with-settled g now apart together f n → out ≡ with-rows n
+      pub rows-settled : {out : List ℤ} → out ≡ with-settled g least most now apart together f n → out ≡ with-rows n
       rows-settled e =
           e ∙ (λ j. overwrite (is j) (row-at g f) ((n - f) * w) G) ∙ overwrite-append own at (f * w) ((n - f) * w) F G (omega (arith, sum, rows-area n to)) same
           ∙ ap (λ (z : ℕ). overwrite own at z F) sum
@@ -245,7 +245,7 @@ module _ (g : Given) (own : List ℤ) (guide : List ℕ) where
           F k = settled-plane (k / w) (k % w)
 
           G : ℕ → ℤ
-          G k = settled-row g now apart together (f + k / w) (k % w)
+          G k = settled-row g least most now apart together (f + k / w) (k % w)
 
           whole : f + (n - f) ≡ n
           whole = omega arith
@@ -368,7 +368,7 @@ module _ (g : Given) (own : List ℤ) (guide : List ℕ) where
             pub settleable-next : Settleable g now apart' together' f n
             settleable-next = settleable room-a' room-b' apart-ring together-ring (omega arith) (omega arith) from-row in-rings
 
-            pub swept-next : {out : List ℤ} → out ≡ with-settled g now apart' together' f n → Swept out ring' apart' together' (r + 1)
+            pub swept-next : {out : List ℤ} → out ≡ with-settled g least most now apart' together' f n → Swept out ring' apart' together' (r + 1)
             swept-next laid-rows = record {
               plane = rows-settled room-a' room-b' apart-ring together-ring (omega arith) (omega arith) from-row in-rings laid-rows ∙ ap with-rows is-n;
               differences = ring-part (omega arith) (omega arith) next-ring;
@@ -377,13 +377,13 @@ module _ (g : Given) (own : List ℤ) (guide : List ℕ) where
             }
 
   -- ---- the settled plane is the projected plane
-  pub settled-projected : Sized g → (r c : ℕ) → r < h → c < w → settled-plane r c ≡ projected limit (g .least) (g .most) w h (guide-plane g guide) (own-plane g own) r c
+  pub settled-projected : Sized g → (r c : ℕ) → r < h → c < w → settled-plane r c ≡ projected limit least most w h (guide-plane g guide) (own-plane g own) r c
   unfolding settled-plane settled projected
   settled-projected size r c i j =
-      ap (rescaled 1024 (g .least) (g .most))
+      ap (rescaled 1024 least most)
       (ap (λ z. pos 1024 *ℤ own-plane g own r c -ℤ z) (crossed-parts limit w h D r c) ∙ sym (held-sum-fast w h (size .width-from) (size .height-from) limit 1 (guide-plane g guide) (own-plane g own) r c i j))
 
-  pub all-projected : Sized g → {now : List ℤ} → now ≡ with-rows h → now ≡ with-projected g own guide
+  pub all-projected : Sized g → {now : List ℤ} → now ≡ with-rows h → now ≡ with-projected g least most own guide
   unfolding with-projected
   all-projected size e =
       e ∙ ap (λ (n : ℕ). overwrite own at n (λ k. settled-plane (k / w) (k % w))) (mul-comm h w)

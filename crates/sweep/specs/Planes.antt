@@ -38,7 +38,7 @@ pub record Projectable (g : Given) (own : List ℤ) (guide : List ℕ) : Type 0 
   pub guide-inside : (r c : ℕ) → r < g .height → c < g .width → g .from + r * g .down + c * g .across < length guide
   pub near : (r c : ℕ) → r < g .height → c < g .width → natAbs (own-plane g own r c -ℤ guide-plane g guide r c) ≤ reach
 
--- the list after it
-unfoldable pub with-projected : Given → List ℤ → List ℕ → List ℤ
-with-projected g own guide =
-    overwrite own (g .at) (g .width * g .height) (λ k. projected (g .limit) (g .least) (g .most) (g .width) (g .height) (guide-plane g guide) (own-plane g own) (k / g .width) (k % g .width))
+-- the list after it, where the clip's ends are least and most
+unfoldable pub with-projected : Given → ℤ → ℤ → List ℤ → List ℕ → List ℤ
+with-projected g least most own guide =
+    overwrite own (g .at) (g .width * g .height) (λ k. projected (g .limit) least most (g .width) (g .height) (guide-plane g guide) (own-plane g own) (k / g .width) (k % g .width))

@@ -54,13 +54,13 @@ ring-together g ring r = together-row (g .limit) (g .width) (ring-line low-split
 abbrev pub five-slots : Given → ℕ → Five
 five-slots g r = record { a = slot-of 5 g (pos r -ℤ pos 2); b = slot-of 5 g (pos r -ℤ pos 1); c = slot 5 (g .width) r; d = slot-of 5 g (pos r +ℤ pos 1); e = slot-of 5 g (pos r +ℤ pos 2) }
 
-unfoldable pub settled-row : Given → List ℤ → List ℤ → List ℤ → ℕ → ℕ → ℤ
-settled-row g own apart together r c = settled (g .least) (g .most) (own-plane g own r c) (crossed apart together (five-slots g r) c)
+unfoldable pub settled-row : Given → ℤ → ℤ → List ℤ → List ℤ → List ℤ → ℕ → ℕ → ℤ
+settled-row g least most own apart together r c = settled least most (own-plane g own r c) (crossed apart together (five-slots g r) c)
 
 -- the list with the rows from f on and below n settled
-abbrev pub with-settled : Given → List ℤ → List ℤ → List ℤ → ℕ → ℕ → List ℤ
-with-settled g own apart together f n =
-    overwrite own (row-at g f) ((n - f) * g .width) (λ k. settled-row g own apart together (f + k / g .width) (k % g .width))
+abbrev pub with-settled : Given → ℤ → ℤ → List ℤ → List ℤ → List ℤ → ℕ → ℕ → List ℤ
+with-settled g least most own apart together f n =
+    overwrite own (row-at g f) ((n - f) * g .width) (λ k. settled-row g least most own apart together (f + k / g .width) (k % g .width))
 
 -- those rows can be settled
 pub record Settleable (g : Given) (own apart together : List ℤ) (f n : ℕ) : Type 0 where

@@ -24,9 +24,6 @@ pub struct Given {
     pub height: usize,
     // how far a detail may be from the guide's
     pub limit: i32,
-    // the ends of the clip
-    pub least: i32,
-    pub most: i32,
 }
 
 // Where a ring of n slots has the row that stands `back` rows before row r.
@@ -119,24 +116,18 @@ fn settle_rows(
     last: usize,
     apart: &[i32],
     together: &[i32],
+    least: i32,
+    most: i32,
 )
     requires { ⌜ Settleable given (now own) (now apart) (now together) first last ⌝ }
-    ensures { λ _. ⌜ now (own .exit) ≡ with-settled given (now (own .entry)) (now (apart .entry)) (now (together .entry)) first last ⌝ }
+    ensures { λ _. ⌜ now (own .exit) ≡ with-settled given least most (now (own .entry)) (now (apart .entry)) (now (together .entry)) first last ⌝ }
 {
     let mut r = first;
     while r < last {
         let starts = five_slots(given, r);
-        let row = given.at + r * given.width;
-        details::settle_line(
-            own,
-            row,
-            apart,
-            together,
-            starts,
-            given.width,
-            given.least,
-            given.most,
-        );
+        let n = given.width;
+        let row = given.at + r * n;
+        details::settle_line(own, row, apart, together, starts, n, least, most);
         r += 1;
     }
 }
@@ -146,6 +137,8 @@ fn project_rows(
     own: &mut [i32],
     guide: &[u16],
     given: Given,
+    least: i32,
+    most: i32,
     differences: &mut [i32],
     low: &mut [i32],
     high: &mut [i32],
@@ -158,7 +151,7 @@ fn project_rows(
     requires { ⌜ Projectable given (now own) (now guide) ⌝ }
     requires { ⌜ (3 * given .width ≤ length (now differences)) × (given .width + 2 ≤ length (now low)) × (given .width + 2 ≤ length (now high)) × (given .width + 4 ≤ length (now parts)) × (given .width + 4 ≤ length (now minus)) × (given .width + 4 ≤ length (now plus)) ⌝ }
     requires { ⌜ (5 * given .width ≤ length (now apart)) × (5 * given .width ≤ length (now together)) ⌝ }
-    ensures { λ _. ⌜ now (own .exit) ≡ with-projected given (now (own .entry)) (now (guide .entry)) ⌝ }
+    ensures { λ _. ⌜ now (own .exit) ≡ with-projected given least most (now (own .entry)) (now (guide .entry)) ⌝ }
 {
     difference_row(own, guide, given, 0, differences);
     let height = given.height;
@@ -178,16 +171,35 @@ fn project_rows(
             apart,
             together,
         );
-        settle_rows(own, given, ready(r), ready(r + 1), apart, together);
+        settle_rows(
+            own,
+            given,
+            ready(r),
+            ready(r + 1),
+            apart,
+            together,
+            least,
+            most,
+        );
         r += 1;
     }
-    settle_rows(own, given, ready(height), height, apart, together);
+    settle_rows(
+        own,
+        given,
+        ready(height),
+        height,
+        apart,
+        together,
+        least,
+        most,
+    );
 }
 
-// The plane's details held within the guide's ± limit, and the plane brought back to least..most.
-pub fn project(own: &mut [i32], guide: &[u16], given: Given)
+// The plane's details held within the guide's ± limit, and the plane brought back to least..most. The two ends stand beside the record:
+// where every caller gives the same numbers, the compiler then clips with those.
+pub fn project(own: &mut [i32], guide: &[u16], given: Given, least: i32, most: i32)
     requires { ⌜ Projectable given (now own) (now guide) ⌝ }
-    ensures { λ _. ⌜ now (own .exit) ≡ with-projected given (now (own .entry)) (now (guide .entry)) ⌝ }
+    ensures { λ _. ⌜ now (own .exit) ≡ with-projected given least most (now (own .entry)) (now (guide .entry)) ⌝ }
 {
     // Longer than they need be: lines some multiple of 4,096 bytes apart would hinder each other in the machine's loads and stores.
     let mut differences = [0i32; 6264];
@@ -202,6 +214,8 @@ pub fn project(own: &mut [i32], guide: &[u16], given: Given)
         own,
         guide,
         given,
+        least,
+        most,
         &mut differences,
         &mut low,
         &mut high,

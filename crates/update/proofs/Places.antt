@@ -61,8 +61,8 @@ module _ (w h a b : ℕ) (ha : a < 2) (hb : b < 2) where
   at-place = place (a * w + b) (2 * w) columns
 
   -- what the projection is given, of a guide that stands where it may
-  abbrev pub given : ℕ → ℕ → ℕ → ℤ → ℤ → Given
-  given from down across limit most = record { at = 0; from = from; down = down; across = across; width = columns; height = rows; limit = limit; least = pos 0; most = most }
+  abbrev pub given : ℕ → ℕ → ℕ → ℤ → Given
+  given from down across limit = record { at = 0; from = from; down = down; across = across; width = columns; height = rows; limit = limit }
 
   -- ---- the work buffer
   module _ (mosaic green : List ℕ) (work : List ℤ) (room : columns * rows ≤ length work) where
@@ -77,10 +77,10 @@ module _ (w h a b : ℕ) (ha : a < 2) (hb : b < 2) where
           ∙ (unfold small-plane plane-of in refl)
 
       -- they may be projected
-      pub projectable : Workable w h mosaic green (length work) → ((k : ℕ) → getD mosaic k 0 ≤ 65535) → ((k : ℕ) → getD green k 0 ≤ 65535) → (from down across : ℕ) (limit most : ℤ) → from ≤ a * w + b → down ≤ 2 * w → across ≤ 2 → Distance limit
-          → Projectable (given from down across limit most) gathered mosaic
+      pub projectable : Workable w h mosaic green (length work) → ((k : ℕ) → getD mosaic k 0 ≤ 65535) → ((k : ℕ) → getD green k 0 ≤ 65535) → (from down across : ℕ) (limit : ℤ) → from ≤ a * w + b → down ≤ 2 * w → across ≤ 2 → Distance limit
+          → Projectable (given from down across limit) gathered mosaic
       unfolding own-plane guide-plane sample places
-      projectable u sm sg from down across limit most p q r distance = record {
+      projectable u sm sg from down across limit p q r distance = record {
         size = record {
           width-from = omega (arith, u .width-from);
           width-to = omega (arith, u .width-to);
@@ -98,7 +98,7 @@ module _ (w h a b : ℕ) (ha : a < 2) (hb : b < 2) where
           bound k hk = subst (λ (z : ℤ). natAbs z ≤ 65535) (sym (ap (λ (l : List ℤ). value l (0 + k)) e ∙ overwrite-in work 0 (columns * rows) (λ k. sample green (at-place k)) k (pos 0) (omega arith) hk)) (sg (at-place k))
 
       -- the projection leaves what is to be put
-      pub mixed-laid : (top : ℕ) {laid : List ℤ} → laid ≡ with-projected (given (a * w + b) (2 * w) 2 (pos 0) (pos top)) gathered mosaic → laid ≡ with-mixed top w h a b mosaic green work
+      pub mixed-laid : (top : ℕ) {laid : List ℤ} → laid ≡ with-projected (given (a * w + b) (2 * w) 2 (pos 0)) (pos 0) (pos top) gathered mosaic → laid ≡ with-mixed top w h a b mosaic green work
       unfolding with-projected with-mixed with-plane small-mixed own-plane guide-plane
       mixed-laid top q =
           q ∙ overwrite-cong gathered 0 (columns * rows) _ new (λ k hk. at (k / columns) (k % columns) (row-inside columns rows k hk) (column-inside columns rows k hk))

@@ -100,7 +100,6 @@ fn update_places(
     let rows = (height + 1 - a) / 2;
     let from = a * width + b;
     let down = 2 * width;
-    let most = top as i32;
     let given = sweep::Given {
         at: 0,
         from,
@@ -109,11 +108,10 @@ fn update_places(
         width: columns,
         height: rows,
         limit: 0,
-        least: 0,
-        most,
     };
+    let most = top as i32;
     gather(green, from, down, columns, rows, work);
-    sweep::project(work, mosaic, given);
+    sweep::project(work, mosaic, given, 0, most);
     scatter(work, columns, rows, green, from, down);
 }
 

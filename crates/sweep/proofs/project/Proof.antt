@@ -1,6 +1,10 @@
 -- `sweep::project` meets its contract: the rings and lines are its own.
 -- Assumes nothing.
+use mathlib.Core.Path.{_∙_}
 use native.Mathlib.Omega.{arith}
+use denote.Ref.{now}
+use mir.Facts.{toZ-ofZ as back}
+use Rattle.sweep.specs.Planes.{with-projected}
 use borrow.Author.Needs.{needs}
 use Rattle.sweep.proofs.project.Statement.{statement}
 use Rattle.sweep.proofs.project.Tie as tie
@@ -39,7 +43,11 @@ same-length : tie.Need-same-length
 same-length c = search needs
 
 returns : tie.Need-returns
-returns c = c .before .before .before .before .before .before .before .before .before .project-rows .ensures
+returns c =
+    let p = c .before .before .before .before .before .before .before .before .before in
+    let s = p .before .before .before .before .before .before .before .before .before .before .before in
+    let a = s .args in
+    p .project-rows .ensures ∙ (λ j. with-projected (a .given) (back (s .fits .least) j) (back (s .fits .most) j) (now (a .own)) (now (a .guide)))
 
 pub project-spec : {M : Type 1} → statement M
 project-spec =

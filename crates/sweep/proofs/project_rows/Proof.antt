@@ -3,18 +3,30 @@
 use mathlib.Core.Path.{_≡_, refl, _∙_, ap}
 use Prim.Native.Nat.{_*_, _-_, _≤_}
 use native.Mathlib.Omega.{arith}
+use lib.IntN.{ℤ}
 use lib.ListN.{length}
 use denote.Ref.{now}
+use mir.Syntax.{w32}
+use mir.Val.{toZ, ofZ}
+use mir.Facts.{toZ-ofZ as back}
+use Rattle.sweep.specs.Planes.{with-projected}
 use Rattle.sweep.proofs.Sweep.{Swept, with-rows, start, first-rows, next-rows, ring-rows, settleable-next, swept-next, settleable, rows-settled, all-projected}
 use Rattle.sweep.proofs.project_rows.Statement.{statement}
 use Rattle.sweep.proofs.project_rows.Tie as tie
 
 abbrev Inv-loop : tie.InvT-loop
-Inv-loop own₀ guide given differences₀ low₀ high₀ parts₀ minus₀ plus₀ apart₀ together₀ height r₀ own differences low high parts minus plus apart together r =
-    (r ≤ given .height) × Swept given own₀ guide own differences apart together r × (length own ≡ length own₀) × (length differences ≡ length differences₀) × (length low ≡ length low₀) × (length high ≡ length high₀) × (length parts ≡ length parts₀) × (length minus ≡ length minus₀) × (length plus ≡ length plus₀) × (length apart ≡ length apart₀) × (length together ≡ length together₀)
+Inv-loop own₀ guide given least most differences₀ low₀ high₀ parts₀ minus₀ plus₀ apart₀ together₀ height r₀ own differences low high parts minus plus apart together r =
+    (r ≤ given .height) × Swept given (toZ w32 least) (toZ w32 most) own₀ guide own differences apart together r × (length own ≡ length own₀) × (length differences ≡ length differences₀) × (length low ≡ length low₀) × (length high ≡ length high₀) × (length parts ≡ length parts₀) × (length minus ≡ length minus₀) × (length plus ≡ length plus₀) × (length apart ≡ length apart₀) × (length together ≡ length together₀)
 
 abbrev μ-loop : tie.MeasureT-loop
-μ-loop own₀ guide given differences₀ low₀ high₀ parts₀ minus₀ plus₀ apart₀ together₀ height r₀ own differences low high parts minus plus apart together r = given .height - r
+μ-loop own₀ guide given least most differences₀ low₀ high₀ parts₀ minus₀ plus₀ apart₀ together₀ height r₀ own differences low high parts minus plus apart together r = given .height - r
+
+-- the clip's ends, as the machine reads them
+abbrev least : tie.Start Inv-loop μ-loop → ℤ
+least s = toZ w32 (ofZ w32 (s .args .least))
+
+abbrev most : tie.Start Inv-loop μ-loop → ℤ
+most s = toZ w32 (ofZ w32 (s .args .most))
 
 -- ---- the places: a turn's calls from the last to the first, and what is before the loop
 abbrev begun : tie.At-loop Inv-loop μ-loop → tie.Start Inv-loop μ-loop
@@ -55,13 +67,13 @@ difference-row-requires c κs =
     let s = c .before .before .before in
     let a = s .args in
     let p = s .pre .0 in
-    (first-rows (a .given) (now (a .own)) (now (a .guide)) p, (p .size, s .pre .1 .0 .0))
+    (first-rows (a .given) (least s) (most s) (now (a .own)) (now (a .guide)) p, (p .size, s .pre .1 .0 .0))
 
 loop-holds : tie.Need-loop-holds Inv-loop μ-loop
 loop-holds c =
     let s = c .before .before .before .before .before in
     let a = s .args in
-    (omega arith, start (a .given) (now (a .own)) (now (a .guide)) (s .pre .0) (now (a .differences)) (now (a .apart)) (now (a .together)) (s .pre .1 .0 .0) (c .before .difference-row .ensures), refl, refl, refl, refl, refl, refl, refl, refl, refl)
+    (omega arith, start (a .given) (least s) (most s) (now (a .own)) (now (a .guide)) (s .pre .0) (now (a .differences)) (now (a .apart)) (now (a .together)) (s .pre .1 .0 .0) (c .before .difference-row .ensures), refl, refl, refl, refl, refl, refl, refl, refl, refl)
 
 -- ---- a turn
 add-reflected : tie.Need-add-reflected Inv-loop μ-loop
@@ -77,7 +89,7 @@ difference-row-requires-2 c κs =
     let s = begun l in
     let a = s .args in
     let p = s .pre .0 in
-    (next-rows (a .given) (now (a .own)) (now (a .guide)) p (l .loop .inv .1) (x .before .loop-test .taken) (x .reflected .ensures .0), (p .size, room-d l))
+    (next-rows (a .given) (least s) (most s) (now (a .own)) (now (a .guide)) p (l .loop .inv .1) (x .before .loop-test .taken) (x .reflected .ensures .0), (p .size, room-d l))
 
 parts-row-requires : tie.Need-parts-row-requires Inv-loop μ-loop
 parts-row-requires c κs =
@@ -90,7 +102,7 @@ parts-row-requires c κs =
     let i = x .before .loop-test .taken in
     let v = l .loop .inv in
     let z = s .pre .1 .0 in
-    let ring = ring-rows (a .given) (now (a .own)) (now (a .guide)) p (v .1) i (room-d l) (x .reflected .ensures .0) (d .difference-row2 .ensures) in
+    let ring = ring-rows (a .given) (least s) (most s) (now (a .own)) (now (a .guide)) p (v .1) i (room-d l) (x .reflected .ensures .0) (d .difference-row2 .ensures) in
     ((p .size, i, p .limit, ring), ((omega (arith, v .4, z .1), omega (arith, v .5, z .2), omega (arith, v .6, z .3), omega (arith, v .7, z .4), omega (arith, v .8, z .5)), (room-a l, room-b l)))
 
 ready-requires : tie.Need-ready-requires Inv-loop μ-loop
@@ -111,7 +123,7 @@ settle-rows-requires c κs =
     let l = turn x in
     let s = begun l in
     let a = s .args in
-    settleable-next (a .given) (now (a .own)) (now (a .guide)) (s .pre .0) (l .loop .inv .1) (x .before .loop-test .taken) (room-d l) (x .reflected .ensures .0) (d .difference-row2 .ensures) (room-a l) (room-b l) (q .parts-row .ensures .0) (q .parts-row .ensures .1) (n .before .ready .ensures) (n .ready2 .ensures)
+    settleable-next (a .given) (least s) (most s) (now (a .own)) (now (a .guide)) (s .pre .0) (l .loop .inv .1) (x .before .loop-test .taken) (room-d l) (x .reflected .ensures .0) (d .difference-row2 .ensures) (room-a l) (room-b l) (q .parts-row .ensures .0) (q .parts-row .ensures .1) (n .before .ready .ensures) (n .ready2 .ensures)
 
 add-r : tie.Need-add-r Inv-loop μ-loop
 add-r c = let l = turn-of (parts (c .before .before .before .before .before)) in omega (arith, begun l .pre .0 .size .height-to, l .loop .inv .0)
@@ -133,7 +145,7 @@ loop-again c =
     let v = l .loop .inv in
     let kept = q .parts-row .kept .1 .1 .1 in (
       omega (arith, v .0, i),
-      swept-next (a .given) (now (a .own)) (now (a .guide)) (s .pre .0) (v .1) i (room-d l) (x .reflected .ensures .0) (d .difference-row2 .ensures) (room-a l) (room-b l) (q .parts-row .ensures .0) (q .parts-row .ensures .1) (n .before .ready .ensures) (n .ready2 .ensures) (o .settle-rows .ensures),
+      swept-next (a .given) (least s) (most s) (now (a .own)) (now (a .guide)) (s .pre .0) (v .1) i (room-d l) (x .reflected .ensures .0) (d .difference-row2 .ensures) (room-a l) (room-b l) (q .parts-row .ensures .0) (q .parts-row .ensures .1) (n .before .ready .ensures) (n .ready2 .ensures) (o .settle-rows .ensures),
       o .settle-rows .kept .0 ∙ v .2,
       d .difference-row2 .kept .1 .1 .1 .1 .0 ∙ v .3,
       kept .0 ∙ v .4,
@@ -161,7 +173,7 @@ settle-rows-requires-2 c κs =
     let a = s .args in
     let v = l .loop .inv in
     let f = c .before .before .ready3 .ensures in
-    settleable (a .given) (now (a .own)) (now (a .guide)) (s .pre .0) (room-a l) (room-b l) (v .1 .aparts) (v .1 .togethers) (omega (arith, f)) (omega arith) (v .1 .plane ∙ ap (with-rows (a .given) (now (a .own)) (now (a .guide))) (omega (arith, f, all e))) (λ q j k. (omega (arith, f, all e, j), omega (arith, all e, k)))
+    settleable (a .given) (least s) (most s) (now (a .own)) (now (a .guide)) (s .pre .0) (room-a l) (room-b l) (v .1 .aparts) (v .1 .togethers) (omega (arith, f)) (omega arith) (v .1 .plane ∙ ap (with-rows (a .given) (least s) (most s) (now (a .own)) (now (a .guide))) (omega (arith, f, all e))) (λ q j k. (omega (arith, f, all e, j), omega (arith, all e, k)))
 
 same-length : tie.Need-same-length Inv-loop μ-loop
 same-length c = c .before .settle-rows2 .kept .0 ∙ done (c .before .before) .before .loop .inv .2
@@ -199,7 +211,8 @@ returns c =
     let a = s .args in
     let v = l .loop .inv in
     let f = b .before .before .ready3 .ensures in
-    all-projected (a .given) (now (a .own)) (now (a .guide)) (s .pre .0 .size) (rows-settled (a .given) (now (a .own)) (now (a .guide)) (s .pre .0) (room-a l) (room-b l) (v .1 .aparts) (v .1 .togethers) (omega (arith, f)) (omega arith) (v .1 .plane ∙ ap (with-rows (a .given) (now (a .own)) (now (a .guide))) (omega (arith, f, all e))) (λ q j k. (omega (arith, f, all e, j), omega (arith, all e, k))) (c .before .settle-rows2 .ensures))
+    all-projected (a .given) (least s) (most s) (now (a .own)) (now (a .guide)) (s .pre .0 .size) (rows-settled (a .given) (least s) (most s) (now (a .own)) (now (a .guide)) (s .pre .0) (room-a l) (room-b l) (v .1 .aparts) (v .1 .togethers) (omega (arith, f)) (omega arith) (v .1 .plane ∙ ap (with-rows (a .given) (least s) (most s) (now (a .own)) (now (a .guide))) (omega (arith, f, all e))) (λ q j k. (omega (arith, f, all e, j), omega (arith, all e, k))) (c .before .settle-rows2 .ensures))
+    ∙ (λ j. with-projected (a .given) (back (s .fits .least) j) (back (s .fits .most) j) (now (a .own)) (now (a .guide)))
 
 pub project-rows-spec : {M : Type 1} → statement M
 project-rows-spec =

@@ -3,12 +3,13 @@
 use mathlib.Core.Path.{_≡_, refl, _∙_, ap}
 use Prim.Native.Nat.{ℕ, _+_, _*_, _-_, _/_, _%_, _≤_, _<_}
 use native.Mathlib.Omega.{arith}
+use lib.IntN.{ℤ}
 use lib.ListN.{length}
 use denote.Ref.{now}
 use mir.Syntax.{w32}
 use mir.Val.{toZ, ofZ}
+use mir.Facts.{toZ-ofZ as back}
 use Rattle.integers.specs.Lists.{overwrite}
-use Rattle.integers.proofs.Bounds.{read-is}
 use Rattle.turns.proofs.Frames.{overwrite-no-row}
 use Rattle.sweep.specs.Rows.{row-at, settled-row, with-settled}
 use Rattle.sweep.proofs.Rows.{row-to-settle, rings-to-settle, row-settled}
@@ -16,17 +17,24 @@ use Rattle.sweep.proofs.settle_rows.Statement.{statement}
 use Rattle.sweep.proofs.settle_rows.Tie as tie
 
 abbrev Inv-loop : tie.InvT-loop
-Inv-loop own₀ given first last apart together r₀ own r =
-    (first ≤ r) × (r ≤ last) × (own ≡ with-settled given own₀ apart together first r) × (length own ≡ length own₀)
+Inv-loop own₀ given first last apart together least most r₀ own r =
+    (first ≤ r) × (r ≤ last) × (own ≡ with-settled given (toZ w32 least) (toZ w32 most) own₀ apart together first r) × (length own ≡ length own₀)
 
 abbrev μ-loop : tie.MeasureT-loop
-μ-loop own₀ given first last apart together r₀ own r = last - r
+μ-loop own₀ given first last apart together least most r₀ own r = last - r
+
+-- the clip's ends, as the machine reads them
+abbrev least : tie.Start Inv-loop μ-loop → ℤ
+least s = toZ w32 (ofZ w32 (s .args .least))
+
+abbrev most : tie.Start Inv-loop μ-loop → ℤ
+most s = toZ w32 (ofZ w32 (s .args .most))
 
 loop-holds : tie.Need-loop-holds Inv-loop μ-loop
 loop-holds c =
     let a = c .args in
     let g = a .given in
-    let new : ℕ → _ = λ k. settled-row g (now (a .own)) (now (a .apart)) (now (a .together)) (a .first + k / g .width) (k % g .width) in
+    let new : ℕ → ℤ = λ k. settled-row g (least c) (most c) (now (a .own)) (now (a .apart)) (now (a .together)) (a .first + k / g .width) (k % g .width) in
     let none : 0 ≡ a .first - a .first = omega arith in
     (omega arith, c .pre .from, overwrite-no-row (now (a .own)) (row-at g (a .first)) (g .width) new ∙ ap (λ (i : ℕ). overwrite (now (a .own)) (row-at g (a .first)) (i * g .width) new) none, refl)
 
@@ -34,8 +42,8 @@ loop-holds c =
 abbrev turn : tie.After-five-slots Inv-loop μ-loop → tie.At-loop Inv-loop μ-loop
 turn c = c .before .before
 
-abbrev found : tie.After-struct-told2 Inv-loop μ-loop → tie.After-five-slots Inv-loop μ-loop
-found c = c .before .before .before .before .before
+abbrev found : tie.After-settle-line-arg Inv-loop μ-loop → tie.After-five-slots Inv-loop μ-loop
+found c = c .before .before
 
 five-slots-requires : tie.Need-five-slots-requires Inv-loop μ-loop
 five-slots-requires c κs =
@@ -47,14 +55,10 @@ inside : (l : tie.At-loop Inv-loop μ-loop) → let s = l .before in l .loop .r 
 inside l i = l .before .pre .rows (l .loop .r) (l .loop .inv .0) i .inside
 
 mul-row : tie.Need-mul-row Inv-loop μ-loop
-mul-row c = let l = turn (c .before) in omega (arith, inside l (omega arith))
+mul-row c = let l = turn c in omega (arith, inside l (omega arith))
 
 add-row : tie.Need-add-row Inv-loop μ-loop
-add-row c = let l = turn (c .before .before) in omega (arith, inside l (omega arith))
-
--- the clip's ends, as the machine reads them: the record tells that its numbers fit
-ends : (k : tie.After-struct-told2 Inv-loop μ-loop) → let g = turn (found k) .before .args .given in (toZ w32 (ofZ w32 (g .least)) ≡ g .least) × (toZ w32 (ofZ w32 (g .most)) ≡ g .most)
-ends k = let z = k .struct-told2 .given .1 .1 .1 .1 .1 .1 .1 in (read-is w32 (z .0 .1) refl, read-is w32 (z .1 .0 .1) refl)
+add-row c = let l = turn (c .before) in omega (arith, inside l (omega arith))
 
 settle-line-requires : tie.Need-settle-line-requires Inv-loop μ-loop
 settle-line-requires c κs =
@@ -63,8 +67,8 @@ settle-line-requires c κs =
     let s = l .before in
     let a = s .args in
     let i : l .loop .r < a .last = omega arith in
-    let row = row-to-settle (a .given) (now (a .own)) (now (a .apart)) (now (a .together)) (a .first) (a .last) (s .pre) (l .loop .r) (l .loop .inv .0) i (l .loop .inv .2) in
-    let rings = rings-to-settle (a .given) (now (a .own)) (now (a .apart)) (now (a .together)) (a .first) (a .last) (s .pre) (l .loop .r) (l .loop .inv .0) i (l .loop .inv .2) (q .five-slots .ensures) in
+    let row = row-to-settle (a .given) (least s) (most s) (now (a .own)) (now (a .apart)) (now (a .together)) (a .first) (a .last) (s .pre) (l .loop .r) (l .loop .inv .0) i (l .loop .inv .2) in
+    let rings = rings-to-settle (a .given) (least s) (most s) (now (a .own)) (now (a .apart)) (now (a .together)) (a .first) (a .last) (s .pre) (l .loop .r) (l .loop .inv .0) i (l .loop .inv .2) (q .five-slots .ensures) in
     (row, rings)
 
 add-r : tie.Need-add-r Inv-loop μ-loop
@@ -75,15 +79,13 @@ loop-less c = omega arith
 
 loop-again : tie.Need-loop-again Inv-loop μ-loop
 loop-again c =
-    let k = c .before .before in
-    let q = found k in
+    let q = found (c .before .before) in
     let l = turn q in
     let s = l .before in
     let a = s .args in
     let i : l .loop .r < a .last = omega arith in
-    let clip = ends k in
     let room = inside l i in
-    let row = row-settled (a .given) (now (a .own)) (now (a .apart)) (now (a .together)) (a .first) (a .last) (s .pre) (l .loop .r) (l .loop .inv .0) i (l .loop .inv .2) (q .five-slots .ensures) (clip .0) (clip .1) (c .before .settle-line .ensures) in
+    let row = row-settled (a .given) (least s) (most s) (now (a .own)) (now (a .apart)) (now (a .together)) (a .first) (a .last) (s .pre) (l .loop .r) (l .loop .inv .0) i (l .loop .inv .2) (q .five-slots .ensures) (c .before .settle-line .ensures) in
     (omega arith, omega arith, row, c .before .settle-line .kept .0 ∙ l .loop .inv .3)
 
 same-length : tie.Need-same-length Inv-loop μ-loop
@@ -92,9 +94,10 @@ same-length c = c .before .loop .inv .3
 returns : tie.Need-returns Inv-loop μ-loop
 returns c =
     let l = c .before in
-    let a = l .before .args in
+    let s = l .before in
+    let a = s .args in
     let all : l .loop .r ≡ a .last = omega arith in
-    l .loop .inv .2 ∙ ap (with-settled (a .given) (now (a .own)) (now (a .apart)) (now (a .together)) (a .first)) all
+    l .loop .inv .2 ∙ (λ j. with-settled (a .given) (back (s .fits .least) j) (back (s .fits .most) j) (now (a .own)) (now (a .apart)) (now (a .together)) (a .first) (all j))
 
 pub settle-rows-spec : {M : Type 1} → statement M
 settle-rows-spec =

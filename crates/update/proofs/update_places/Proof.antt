@@ -77,7 +77,7 @@ project-requires c κs =
     let k = g .before .before .before in
     let s = begun g in
     let a = s .args in
-    projectable (a .width) (a .height) (a .a) (a .b) (s .pre .1) (s .pre .2) (now (a .mosaic)) (now (a .green)) (now (a .work)) (room s) (g .gather .ensures) (s .pre .0) (λ i. omega (arith, k .before .shared-slice-known .given i)) (λ i. omega (arith, k .slice-known .given i)) _ _ _ _ _ (omega arith) (omega arith) (omega arith) (record { sign = tt; small = omega arith })
+    projectable (a .width) (a .height) (a .a) (a .b) (s .pre .1) (s .pre .2) (now (a .mosaic)) (now (a .green)) (now (a .work)) (room s) (g .gather .ensures) (s .pre .0) (λ i. omega (arith, k .before .shared-slice-known .given i)) (λ i. omega (arith, k .slice-known .given i)) _ _ _ _ (omega arith) (omega arith) (omega arith) (record { sign = tt; small = omega arith })
 
 -- what the projection leaves
 mixed : (p : tie.After-project) → let a = begun (gathered (p .before)) .args in p .project .last .0 ≡ with-mixed (a .top) (a .width) (a .height) (a .a) (a .b) (now (a .mosaic)) (now (a .green)) (now (a .work))
@@ -88,7 +88,7 @@ mixed p =
     let a = s .args in
     let most : toZ w32 (a .top) ≡ pos (a .top) = toZ-pos w32 (omega arith) in
     mixed-laid (a .width) (a .height) (a .a) (a .b) (s .pre .1) (s .pre .2) (now (a .mosaic)) (now (a .green)) (now (a .work)) (room s) (g .gather .ensures) (a .top)
-    (p .project .ensures ∙ (λ j. with-projected (given (a .width) (a .height) (a .a) (a .b) (s .pre .1) (s .pre .2) (a .a * a .width + a .b) (2 * a .width) 2 (pos 0) (most j)) (g .gather .last .1 .1 .1 .1 .1 .0) (now (a .mosaic))))
+    (p .project .ensures ∙ (λ j. with-projected (given (a .width) (a .height) (a .a) (a .b) (s .pre .1) (s .pre .2) (a .a * a .width + a .b) (2 * a .width) 2 (pos 0)) (pos 0) (most j) (g .gather .last .1 .1 .1 .1 .1 .0) (now (a .mosaic))))
 
 scatter-requires : tie.Need-scatter-requires
 unfolding places
