@@ -57,9 +57,9 @@ module _ (f : Frame) (s : Settings) (before : Lent) (n : ℕ) (e : n ≡ ask (ro
   blue-long = let y = known .1 in eqb-true (length (before .three .blue)) count (search y)
 
 -- ---- what it leaves
--- the colour of a frame, with ceiling `top`, whose rows and columns have these parities
-abbrev pub colour-in : Frame → Settings → ℕ → ℕ → ℕ → Colour
-colour-in f s top row column = record { width = f .width; height = f .height; row = row; column = column; top = top; threshold = s .threshold }
+-- the colour of a frame whose rows and columns have these parities
+abbrev pub colour-in : Frame → Settings → ℕ → ℕ → Colour
+colour-in f s row column = record { width = f .width; height = f .height; row = row; column = column; threshold = s .threshold }
 
 module _ (f : Frame) (s : Settings) (before : Lent) {top n : ℕ} (eTop : top ≡ ceiling-of s) (eN : n ≡ rounds-of s) where
   abbrev w : ℕ
@@ -70,7 +70,7 @@ module _ (f : Frame) (s : Settings) (before : Lent) {top n : ℕ} (eTop : top �
 
   -- what a colour's plane is rewritten to, by so many rounds with that ceiling
   abbrev new : ℕ → ℕ → ℕ → ℕ → List ℕ → List ℕ
-  new m t row column plane = listing w h (rewritten m (round-of (colour-in f s t row column) (f .samples) (before .three .green)) (plane-of 0 w plane))
+  new m t row column plane = listing w h (rewritten m (round-of (colour-in f s row column) t (f .samples) (before .three .green)) (plane-of 0 w plane))
 
   -- red and blue rewritten, and the work buffer zeroed, whatever planes stood in it
   pub all-rewritten : 8 * (w * h) ≤ length (before .work) → (p q : ℕ → ℕ → ℤ) {red blue : List ℕ} {first second last : List ℤ}
@@ -103,9 +103,9 @@ unfolding rounds-lists rounds
 no-rounds f s none given p q = λ i. planes (same (red-row (f .layout)) (red-column (f .layout)) (given .red) p i) (given .green) (same (1 - red-row (f .layout)) (1 - red-column (f .layout)) (given .blue) q i)
   where
     same : (row column : ℕ) (plane : List ℕ) → length plane ≡ f .width * f .height
-        → listing (f .width) (f .height) (rewritten (rounds-of s) (round-of (colour-in f s (ceiling-of s) row column) (f .samples) (given .green)) (plane-of 0 (f .width) plane)) ≡ plane
+        → listing (f .width) (f .height) (rewritten (rounds-of s) (round-of (colour-in f s row column) (ceiling-of s) (f .samples) (given .green)) (plane-of 0 (f .width) plane)) ≡ plane
     same row column plane e =
-        ap (λ (n : ℕ). listing (f .width) (f .height) (rewritten n (round-of (colour-in f s (ceiling-of s) row column) (f .samples) (given .green)) (plane-of 0 (f .width) plane))) none
+        ap (λ (n : ℕ). listing (f .width) (f .height) (rewritten n (round-of (colour-in f s row column) (ceiling-of s) (f .samples) (given .green)) (plane-of 0 (f .width) plane))) none
         ∙ listing-agree (f .width) (f .height) (λ r c hr hc. no-round _ (plane-of 0 (f .width) plane) r c) ∙ listing-plane-of 0 (f .width) (f .height) plane e
 
 -- refused and accepted

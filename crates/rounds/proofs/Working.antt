@@ -30,27 +30,27 @@ use Rattle.rounds.specs.declared.Colour.{Colour}
 use Rattle.rounds.proofs.Repeated.{projected-on-green, round-projected, round-agrees, after-rounds-agree, after-rounds-hold, kept-sample}
 
 -- ---- what the projection is given
-abbrev pub given : ℕ → ℕ → ℤ → ℤ → Given
-given w h limit most = record { at = 0; from = 0; down = w; across = 1; width = w; height = h; limit = limit; least = pos 0; most = most }
+abbrev pub given : ℕ → ℕ → ℤ → Given
+given w h limit = record { at = 0; from = 0; down = w; across = 1; width = w; height = h; limit = limit }
 
 -- the working plane, first in its list
-own-first : (work : List ℤ) (w h : ℕ) (limit most : ℤ) (r c : ℕ) → own-plane (given w h limit most) work r c ≡ plane-of (pos 0) w work r c
+own-first : (work : List ℤ) (w h : ℕ) (limit : ℤ) (r c : ℕ) → own-plane (given w h limit) work r c ≡ plane-of (pos 0) w work r c
 unfolding own-plane plane-of
-own-first work w h limit most r c = ap (value work) (zero-add (r * w + c))
+own-first work w h limit r c = ap (value work) (zero-add (r * w + c))
 
 -- and green, as it is
-guide-first : (green : List ℕ) (w h : ℕ) (limit most : ℤ) (r c : ℕ) → guide-plane (given w h limit most) green r c ≡ pos (plane-of 0 w green r c)
+guide-first : (green : List ℕ) (w h : ℕ) (limit : ℤ) (r c : ℕ) → guide-plane (given w h limit) green r c ≡ pos (plane-of 0 w green r c)
 unfolding guide-plane plane-of
-guide-first green w h limit most r c = ap (λ (n : ℕ). pos (getD green n 0)) place
+guide-first green w h limit r c = ap (λ (n : ℕ). pos (getD green n 0)) place
   where
     place : 0 + r * w + c * 1 ≡ r * w + c
     place = omega arith
 
 -- they may be projected
-pub projectable : (w h : ℕ) (mosaic green : List ℕ) (work : List ℤ) → Workable w h mosaic green (length work) → Narrow work 0 (w * h) → ((k : ℕ) → getD green k 0 ≤ 65535) → (limit most : ℤ) → Distance limit
-    → Projectable (given w h limit most) work green
+pub projectable : (w h : ℕ) (mosaic green : List ℕ) (work : List ℤ) → Workable w h mosaic green (length work) → Narrow work 0 (w * h) → ((k : ℕ) → getD green k 0 ≤ 65535) → (limit : ℤ) → Distance limit
+    → Projectable (given w h limit) work green
 unfolding own-plane guide-plane
-projectable w h mosaic green work u n sg limit most distance = record {
+projectable w h mosaic green work u n sg limit distance = record {
   size = record { width-from = omega (arith, u .width-from); width-to = u .width-to; height-from = omega (arith, u .height-from); height-to = u .height-to };
   limit = distance;
   inside = n .inside;
@@ -59,7 +59,7 @@ projectable w h mosaic green work u n sg limit most distance = record {
   near = λ r c hr hc. omega (arith, abs-sub (value work (0 + (r * w + c))) (pos (getD green (0 + r * w + c * 1) 0)), n .small (r * w + c) (place-inside hr hc), sg (0 + r * w + c * 1));
 }
 
-module _ (k : Colour) (mosaic green : List ℕ) (work : List ℤ) (room : k .width * k .height ≤ length work) where
+module _ (k : Colour) (top : ℕ) (mosaic green : List ℕ) (work : List ℤ) (room : k .width * k .height ≤ length work) where
   abbrev w : ℕ
   w = k .width
 
@@ -68,23 +68,23 @@ module _ (k : Colour) (mosaic green : List ℕ) (work : List ℤ) (room : k .wid
 
   -- its round, and the working plane in the list
   abbrev K : Round
-  K = round-of k mosaic green
+  K = round-of k top mosaic green
 
   abbrev Own : ℕ → ℕ → ℤ
   Own = plane-of (pos 0) w work
 
   -- what the projection leaves
   abbrev G : Given
-  G = given w h (K .limit) (pos (k .top))
+  G = given w h (K .limit)
 
   abbrev Projected : ℕ → ℕ → ℤ
-  Projected = projected (K .limit) (pos 0) (pos (k .top)) w h (guide-plane G green) (own-plane G work)
+  Projected = projected (K .limit) (pos 0) (pos top) w h (guide-plane G green) (own-plane G work)
 
   projected-same : Agree w h Projected (projected-on-green K Own)
-  projected-same = projected-agrees (K .limit) (pos 0) (pos (k .top)) w h _ _ _ _ (λ r c hr hc. guide-first green w h _ _ r c) (λ r c hr hc. own-first work w h _ _ r c)
+  projected-same = projected-agrees (K .limit) (pos 0) (pos top) w h _ _ _ _ (λ r c hr hc. guide-first green w h _ r c) (λ r c hr hc. own-first work w h _ r c)
 
   -- a round: projected, and the observed samples put in
-  pub round-laid : k .row < 2 → k .column < 2 → {first second : List ℤ} → first ≡ with-projected G work green
+  pub round-laid : k .row < 2 → k .column < 2 → {first second : List ℤ} → first ≡ with-projected G (pos 0) (pos top) work green
       → let at = place (k .row * w + k .column) (2 * w) (places w (k .column)) in second ≡ put first (places w (k .column) * places h (k .row)) at (λ i. sample mosaic (at i))
       → second ≡ with-plane w h (round K Own) work
   round-laid ha hb {first} {second} p q =
@@ -131,10 +131,10 @@ module _ (k : Colour) (mosaic green : List ℕ) (work : List ℤ) (room : k .wid
       held r c hr hc = ap (λ (l : List ℤ). plane-of (pos 0) w l r c) p ∙ plane-with w h work room (After n) r c hr hc
 
   -- its numbers are samples all the while
-  pub after-narrow : (n : ℕ) {l : List ℤ} → l ≡ with-plane w h (After n) work → Narrow work 0 (w * h) → k .top ≤ 65535 → ((i : ℕ) → getD mosaic i 0 ≤ 65535) → Narrow l 0 (w * h)
+  pub after-narrow : (n : ℕ) {l : List ℤ} → l ≡ with-plane w h (After n) work → Narrow work 0 (w * h) → top ≤ 65535 → ((i : ℕ) → getD mosaic i 0 ≤ 65535) → Narrow l 0 (w * h)
   after-narrow n p narrow few sm =
       narrow-plane w h work room (After n) p
-      (after-rounds-hold K (SampleTo 65535) Own (λ s. let b = kept-sample (k .top) s in (b .0, omega (arith, b .1, few))) (λ r c hr hc. (tt, observed r c)) first n)
+      (after-rounds-hold K (SampleTo 65535) Own (λ s. let b = kept-sample top s in (b .0, omega (arith, b .1, few))) (λ r c hr hc. (tt, observed r c)) first n)
     where
       observed : (r c : ℕ) → plane-of 0 w mosaic r c ≤ 65535
       observed r c = unfold plane-of in sm (r * w + c)
@@ -143,7 +143,7 @@ module _ (k : Colour) (mosaic green : List ℕ) (work : List ℤ) (room : k .wid
       first r c hr hc = unfold plane-of in subst (λ (n : ℕ). SampleTo 65535 (value work n)) (zero-add (r * w + c)) (narrow .sign (r * w + c) (place-inside hr hc), narrow .small (r * w + c) (place-inside hr hc))
 
 -- ---- a colour's plane: loaded, through n rounds, and stored
-module _ (k : Colour) (mosaic green plane : List ℕ) (work : List ℤ) (room : k .width * k .height ≤ length work) (long : length plane ≡ k .width * k .height)
+module _ (k : Colour) (top : ℕ) (mosaic green plane : List ℕ) (work : List ℤ) (room : k .width * k .height ≤ length work) (long : length plane ≡ k .width * k .height)
     {first : List ℤ} (p : first ≡ overwrite work 0 (length plane) (sample plane)) where
   abbrev Samples : ℕ → ℕ → ℤ
   Samples r c = pos (plane-of 0 (k .width) plane r c)
@@ -164,17 +164,17 @@ module _ (k : Colour) (mosaic green plane : List ℕ) (work : List ℤ) (room : 
   pub first-workable : Workable (k .width) (k .height) mosaic green (length work) → Workable (k .width) (k .height) mosaic green (length first)
   first-workable = subst (Workable (k .width) (k .height) mosaic green) (sym first-long)
 
-  module _ (n : ℕ) {second : List ℤ} (q : second ≡ with-plane (k .width) (k .height) (after-rounds n (round-of k mosaic green) (plane-of (pos 0) (k .width) first)) first) where
+  module _ (n : ℕ) {second : List ℤ} (q : second ≡ with-plane (k .width) (k .height) (after-rounds n (round-of k top mosaic green) (plane-of (pos 0) (k .width) first)) first) where
     -- and at last
-    pub last-narrow : k .top ≤ 65535 → ((i : ℕ) → getD plane i 0 ≤ 65535) → ((i : ℕ) → getD mosaic i 0 ≤ 65535) → Narrow second 0 (length plane)
-    last-narrow few sp sm = subst (Narrow second 0) (sym long) (after-narrow k mosaic green first (omega (arith, room, first-long)) n q (first-narrow sp) few sm)
+    pub last-narrow : top ≤ 65535 → ((i : ℕ) → getD plane i 0 ≤ 65535) → ((i : ℕ) → getD mosaic i 0 ≤ 65535) → Narrow second 0 (length plane)
+    last-narrow few sp sm = subst (Narrow second 0) (sym long) (after-narrow k top mosaic green first (omega (arith, room, first-long)) n q (first-narrow sp) few sm)
 
     abbrev Last : ℕ → ℕ → ℤ
-    Last = after-rounds n (round-of k mosaic green) Samples
+    Last = after-rounds n (round-of k top mosaic green) Samples
 
     pub last-laid : second ≡ with-plane (k .width) (k .height) Last work
     last-laid =
-        q ∙ with-plane-agree (k .width) (k .height) first (omega (arith, room, first-long)) (after-rounds-agree (round-of k mosaic green) n (plane-of (pos 0) (k .width) first) Samples held)
+        q ∙ with-plane-agree (k .width) (k .height) first (omega (arith, room, first-long)) (after-rounds-agree (round-of k top mosaic green) n (plane-of (pos 0) (k .width) first) Samples held)
         ∙ ap (with-plane (k .width) (k .height) Last) first-laid
         ∙ with-plane-again (k .width) (k .height) work room Samples Last
       where
@@ -183,7 +183,7 @@ module _ (k : Colour) (mosaic green plane : List ℕ) (work : List ℤ) (room : 
 
     -- stored as samples
     pub stored : {out : List ℕ} → out ≡ tabulate (length plane) (λ i. natAbs (value second i))
-        → out ≡ listing (k .width) (k .height) (rewritten n (round-of k mosaic green) (plane-of 0 (k .width) plane))
+        → out ≡ listing (k .width) (k .height) (rewritten n (round-of k top mosaic green) (plane-of 0 (k .width) plane))
     unfolding listing rewritten
     stored e =
         e ∙ ap (λ (m : ℕ). tabulate m (λ i. natAbs (value second i))) long

@@ -33,14 +33,13 @@ impl RoundsAnswer {
     }
 }
 
-// The rounds of a colour, but for mosaic and green: the frame's sizes, the parities of the colour's rows and columns, the ceiling and the
-// threshold.
+// A colour's places, by the frame's sizes and the parities of the colour's rows and columns; and the threshold. The ceiling goes beside it, a
+// number that the compiler then clips with.
 struct Colour {
     width: usize,
     height: usize,
     row: usize,
     column: usize,
-    top: u16,
     threshold: u16,
 }
 
@@ -101,14 +100,14 @@ fn limit_of(threshold: u16) -> i32
 }
 
 // A round of the colour's working plane.
-fn round(colour: Colour, mosaic: &[u16], green: &[u16], work: &mut [i32])
+fn round(colour: Colour, top: u16, mosaic: &[u16], green: &[u16], work: &mut [i32])
     requires { ⌜ Workable (colour .width) (colour .height) (now mosaic) (now green) (length (now work)) × (colour .row < 2) × (colour .column < 2) × Narrow (now work) 0 (colour .width * colour .height) ⌝ }
-    ensures { λ _. ⌜ now (work .exit) ≡ with-plane (colour .width) (colour .height) (round (round-of colour (now (mosaic .entry)) (now (green .entry))) (plane-of (pos 0) (colour .width) (now (work .entry)))) (now (work .entry)) ⌝ }
+    ensures { λ _. ⌜ now (work .exit) ≡ with-plane (colour .width) (colour .height) (round (round-of colour top (now (mosaic .entry)) (now (green .entry))) (plane-of (pos 0) (colour .width) (now (work .entry)))) (now (work .entry)) ⌝ }
 {
     let width = colour.width;
     let height = colour.height;
     let limit = limit_of(colour.threshold);
-    let most = work_buffer::widened(colour.top);
+    let most = work_buffer::widened(top);
     let given = sweep::Given {
         at: 0,
         from: 0,
@@ -117,10 +116,8 @@ fn round(colour: Colour, mosaic: &[u16], green: &[u16], work: &mut [i32])
         width,
         height,
         limit,
-        least: 0,
-        most,
     };
-    sweep::project(work, green, given);
+    sweep::project(work, green, given, 0, most);
     let first = colour.row * width + colour.column;
     let columns = (width + 1 - colour.column) / 2;
     let rows = (height + 1 - colour.row) / 2;
@@ -128,13 +125,13 @@ fn round(colour: Colour, mosaic: &[u16], green: &[u16], work: &mut [i32])
 }
 
 // So many rounds of it.
-fn run(colour: Colour, rounds: u8, mosaic: &[u16], green: &[u16], work: &mut [i32])
+fn run(colour: Colour, top: u16, rounds: u8, mosaic: &[u16], green: &[u16], work: &mut [i32])
     requires { ⌜ Workable (colour .width) (colour .height) (now mosaic) (now green) (length (now work)) × (colour .row < 2) × (colour .column < 2) × Narrow (now work) 0 (colour .width * colour .height) ⌝ }
-    ensures { λ _. ⌜ now (work .exit) ≡ with-plane (colour .width) (colour .height) (after-rounds rounds (round-of colour (now (mosaic .entry)) (now (green .entry))) (plane-of (pos 0) (colour .width) (now (work .entry)))) (now (work .entry)) ⌝ }
+    ensures { λ _. ⌜ now (work .exit) ≡ with-plane (colour .width) (colour .height) (after-rounds rounds (round-of colour top (now (mosaic .entry)) (now (green .entry))) (plane-of (pos 0) (colour .width) (now (work .entry)))) (now (work .entry)) ⌝ }
 {
     let mut n = 0;
     while n < rounds {
-        round(colour, mosaic, green, work);
+        round(colour, top, mosaic, green, work);
         n += 1;
     }
 }
@@ -142,6 +139,7 @@ fn run(colour: Colour, rounds: u8, mosaic: &[u16], green: &[u16], work: &mut [i3
 // A colour's plane: loaded, worked on through all rounds, and stored once.
 fn rewrite(
     colour: Colour,
+    top: u16,
     rounds: u8,
     mosaic: &[u16],
     green: &[u16],
@@ -149,11 +147,11 @@ fn rewrite(
     work: &mut [i32],
 )
     requires { ⌜ Workable (colour .width) (colour .height) (now mosaic) (now green) (length (now work)) × (colour .row < 2) × (colour .column < 2) × (length (now plane) ≡ colour .width * colour .height) ⌝ }
-    ensures { λ _. ⌜ now (plane .exit) ≡ listing (colour .width) (colour .height) (rewritten rounds (round-of colour (now (mosaic .entry)) (now (green .entry))) (plane-of 0 (colour .width) (now (plane .entry)))) ⌝ }
-    ensures { λ _. ⌜ now (work .exit) ≡ with-plane (colour .width) (colour .height) (after-rounds rounds (round-of colour (now (mosaic .entry)) (now (green .entry))) (λ i j. pos (plane-of 0 (colour .width) (now (plane .entry)) i j))) (now (work .entry)) ⌝ }
+    ensures { λ _. ⌜ now (plane .exit) ≡ listing (colour .width) (colour .height) (rewritten rounds (round-of colour top (now (mosaic .entry)) (now (green .entry))) (plane-of 0 (colour .width) (now (plane .entry)))) ⌝ }
+    ensures { λ _. ⌜ now (work .exit) ≡ with-plane (colour .width) (colour .height) (after-rounds rounds (round-of colour top (now (mosaic .entry)) (now (green .entry))) (λ i j. pos (plane-of 0 (colour .width) (now (plane .entry)) i j))) (now (work .entry)) ⌝ }
 {
     load(plane, work);
-    run(colour, rounds, mosaic, green, work);
+    run(colour, top, rounds, mosaic, green, work);
     store(work, plane);
 }
 
@@ -230,7 +228,6 @@ fn rewrite_colours(
         height,
         row,
         column,
-        top,
         threshold,
     };
     let blues = Colour {
@@ -238,11 +235,10 @@ fn rewrite_colours(
         height,
         row: 1 - row,
         column: 1 - column,
-        top,
         threshold,
     };
-    rewrite(reds, rounds, mosaic, green, red, work);
-    rewrite(blues, rounds, mosaic, green, blue, work);
+    rewrite(reds, top, rounds, mosaic, green, red, work);
+    rewrite(blues, top, rounds, mosaic, green, blue, work);
     work_buffer::zero(work, 8 * (width * height));
 }
 

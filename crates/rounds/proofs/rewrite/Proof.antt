@@ -27,10 +27,10 @@ run-requires c κs =
     let l = c .before .before in
     let s = l .before .before .before .before .before .before in
     let a = s .args in (
-      first-workable (a .colour) (now (a .mosaic)) (now (a .green)) (now (a .plane)) (now (a .work)) (room s) (s .pre .3) (l .load .ensures) (s .pre .0),
+      first-workable (a .colour) (a .top) (now (a .mosaic)) (now (a .green)) (now (a .plane)) (now (a .work)) (room s) (s .pre .3) (l .load .ensures) (s .pre .0),
       s .pre .1,
       s .pre .2,
-      first-narrow (a .colour) (now (a .mosaic)) (now (a .green)) (now (a .plane)) (now (a .work)) (room s) (s .pre .3) (l .load .ensures) (plane-small l),
+      first-narrow (a .colour) (a .top) (now (a .mosaic)) (now (a .green)) (now (a .plane)) (now (a .work)) (room s) (s .pre .3) (l .load .ensures) (plane-small l),
     )
 
 store-requires : tie.Need-store-requires
@@ -39,7 +39,7 @@ store-requires c κs =
     let l = r .before .before .before in
     let s = l .before .before .before .before .before .before in
     let a = s .args in
-    last-narrow (a .colour) (now (a .mosaic)) (now (a .green)) (now (a .plane)) (now (a .work)) (room s) (s .pre .3) (l .load .ensures) _ (r .run .ensures) (omega (arith, s .good .0)) (plane-small l) (mosaic-small l)
+    last-narrow (a .colour) (a .top) (now (a .mosaic)) (now (a .green)) (now (a .plane)) (now (a .work)) (room s) (s .pre .3) (l .load .ensures) _ (r .run .ensures) (omega arith) (plane-small l) (mosaic-small l)
 
 same-length : tie.Need-same-length
 same-length c = search needs
@@ -53,8 +53,8 @@ returns c =
     let l = r .before .before .before in
     let s = l .before .before .before .before .before .before in
     let a = s .args in (
-      stored (a .colour) (now (a .mosaic)) (now (a .green)) (now (a .plane)) (now (a .work)) (room s) (s .pre .3) (l .load .ensures) _ (r .run .ensures) (c .before .before .store .ensures),
-      last-laid (a .colour) (now (a .mosaic)) (now (a .green)) (now (a .plane)) (now (a .work)) (room s) (s .pre .3) (l .load .ensures) _ (r .run .ensures),
+      stored (a .colour) (a .top) (now (a .mosaic)) (now (a .green)) (now (a .plane)) (now (a .work)) (room s) (s .pre .3) (l .load .ensures) _ (r .run .ensures) (c .before .before .store .ensures),
+      last-laid (a .colour) (a .top) (now (a .mosaic)) (now (a .green)) (now (a .plane)) (now (a .work)) (room s) (s .pre .3) (l .load .ensures) _ (r .run .ensures),
     )
 
 pub rewrite-spec : {M : Type 1} → statement M

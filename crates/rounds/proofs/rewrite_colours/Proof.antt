@@ -40,7 +40,7 @@ mul-zero : tie.Need-mul-zero
 mul-zero c = search needs
 
 mul-zero-2 : tie.Need-mul-zero-2
-mul-zero-2 c = search needs
+mul-zero-2 c = let u = c .before .before .before .before .before .before .before .before .before .before .before .before .before .before .before .before .before .before .before .pre .0 in record { fits = omega (arith, area-bound (u .width-to) (u .height-to)) }
 
 zero-requires : tie.Need-zero-requires
 zero-requires c κs = search needs

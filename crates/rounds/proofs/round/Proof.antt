@@ -36,7 +36,7 @@ widened-requires c κs = search needs
 limit : (c : tie.After-widened) → toZ w32 (ofZ w32 (c .before .limit-of .result)) ≡ limit-of (start c .args .colour .threshold)
 limit c = read-is w32 (c .before .limit-of .ok) (c .before .limit-of .ensures)
 
-most : (c : tie.After-widened) → toZ w32 (ofZ w32 (c .widened .result)) ≡ pos (start c .args .colour .top)
+most : (c : tie.After-widened) → toZ w32 (ofZ w32 (c .widened .result)) ≡ pos (start c .args .top)
 most c = read-is w32 (c .widened .ok) (c .widened .ensures)
 
 limit-distance : (c : tie.After-widened) → Distance (toZ w32 (ofZ w32 (c .before .limit-of .result)))
@@ -46,7 +46,7 @@ project-requires : tie.Need-project-requires
 project-requires c κs =
     let s = start (c .before) in
     let a = s .args in
-    projectable (a .colour .width) (a .colour .height) (now (a .mosaic)) (now (a .green)) (now (a .work)) (s .pre .0) (s .pre .3) (λ k. omega (arith, c .before .before .before .shared-slice-known2 .given k)) _ _ (limit-distance (c .before))
+    projectable (a .colour .width) (a .colour .height) (now (a .mosaic)) (now (a .green)) (now (a .work)) (s .pre .0) (s .pre .3) (λ k. omega (arith, c .before .before .before .shared-slice-known2 .given k)) _ (limit-distance (c .before))
 
 -- the colour's first place is near
 near : (s : tie.Start) → s .args .colour .row * s .args .colour .width ≤ 2 * s .args .colour .width
@@ -93,8 +93,8 @@ returns c =
     let s = start m in
     let a = s .args in
     let k = a .colour in
-    round-laid k (now (a .mosaic)) (now (a .green)) (now (a .work)) (omega (arith, s .pre .0 .work)) (s .pre .1) (s .pre .2)
-    (p .project .ensures ∙ (λ j. with-projected (given (k .width) (k .height) (limit m j) (most m j)) (now (a .work)) (now (a .green))))
+    round-laid k (a .top) (now (a .mosaic)) (now (a .green)) (now (a .work)) (omega (arith, s .pre .0 .work)) (s .pre .1) (s .pre .2)
+    (p .project .ensures ∙ (λ j. with-projected (given (k .width) (k .height) (limit m j)) (pos 0) (most m j) (now (a .work)) (now (a .green))))
     (c .before .observe .ensures)
 
 pub round-spec : {M : Type 1} → statement M

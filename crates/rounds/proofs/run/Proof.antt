@@ -16,17 +16,17 @@ use Rattle.rounds.proofs.run.Statement.{statement}
 use Rattle.rounds.proofs.run.Tie as tie
 
 abbrev Inv-loop : tie.InvT-loop
-Inv-loop colour rounds mosaic green work₀ n₀ work n =
+Inv-loop colour top rounds mosaic green work₀ n₀ work n =
     (n ≤ rounds)
-    × (work ≡ with-plane (colour .width) (colour .height) (after-rounds n (round-of colour mosaic green) (plane-of (pos 0) (colour .width) work₀)) work₀)
+    × (work ≡ with-plane (colour .width) (colour .height) (after-rounds n (round-of colour top mosaic green) (plane-of (pos 0) (colour .width) work₀)) work₀)
     × (length work ≡ length work₀)
 
 abbrev μ-loop : tie.MeasureT-loop
-μ-loop colour rounds mosaic green work₀ n₀ work n = rounds - n
+μ-loop colour top rounds mosaic green work₀ n₀ work n = rounds - n
 
 -- the working plane after n rounds
 abbrev After : tie.Start Inv-loop μ-loop → ℕ → ℕ → ℕ → ℤ
-After s n = let a = s .args in after-rounds n (round-of (a .colour) (now (a .mosaic)) (now (a .green))) (plane-of (pos 0) (a .colour .width) (now (a .work)))
+After s n = let a = s .args in after-rounds n (round-of (a .colour) (a .top) (now (a .mosaic)) (now (a .green))) (plane-of (pos 0) (a .colour .width) (now (a .work)))
 
 -- it has room
 room : (s : tie.Start Inv-loop μ-loop) → s .args .colour .width * s .args .colour .height ≤ length (now (s .args .work))
@@ -36,7 +36,7 @@ loop-holds : tie.Need-loop-holds Inv-loop μ-loop
 loop-holds c =
     let s = c .before .before in
     let a = s .args in
-    (omega arith, none-laid (a .colour) (now (a .mosaic)) (now (a .green)) (now (a .work)) (room s), refl)
+    (omega arith, none-laid (a .colour) (a .top) (now (a .mosaic)) (now (a .green)) (now (a .work)) (room s), refl)
 
 round-requires : tie.Need-round-requires Inv-loop μ-loop
 round-requires c κs =
@@ -46,7 +46,7 @@ round-requires c κs =
       subst (Workable (a .colour .width) (a .colour .height) (now (a .mosaic)) (now (a .green))) (sym (l .loop .inv .2)) (s .pre .0),
       s .pre .1,
       s .pre .2,
-      after-narrow (a .colour) (now (a .mosaic)) (now (a .green)) (now (a .work)) (room s) (l .loop .n) (l .loop .inv .1) (s .pre .3) (omega (arith, s .good .0)) (λ k. omega (arith, l .before .before .shared-slice-known .given k)),
+      after-narrow (a .colour) (a .top) (now (a .mosaic)) (now (a .green)) (now (a .work)) (room s) (l .loop .n) (l .loop .inv .1) (s .pre .3) (omega arith) (λ k. omega (arith, l .before .before .shared-slice-known .given k)),
     )
 
 add-n : tie.Need-add-n Inv-loop μ-loop
@@ -61,7 +61,7 @@ loop-again c =
     let s = l .before .before .before in
     let a = s .args in (
       omega arith,
-      more-laid (a .colour) (now (a .mosaic)) (now (a .green)) (now (a .work)) (room s) (l .loop .n) (l .loop .inv .1) (c .before .round .ensures),
+      more-laid (a .colour) (a .top) (now (a .mosaic)) (now (a .green)) (now (a .work)) (room s) (l .loop .n) (l .loop .inv .1) (c .before .round .ensures),
       omega arith,
     )
 
