@@ -107,7 +107,7 @@ fn round(colour: Colour, top: u16, mosaic: &[u16], green: &[u16], work: &mut [i3
     let width = colour.width;
     let height = colour.height;
     let limit = limit_of(colour.threshold);
-    let most = work_buffer::widened(top);
+    let most = top as i32;
     let given = sweep::Given {
         at: 0,
         from: 0,

@@ -8,6 +8,7 @@ use lib.IntN.{pos}
 use denote.Ref.{now}
 use mir.Syntax.{w32}
 use mir.Val.{toZ, ofZ}
+use mir.Facts.{toZ-pos}
 use borrow.Author.Needs.{needs}
 use Rattle.integers.proofs.Bounds.{read-is}
 use Rattle.filters.specs.Bank.{Distance}
@@ -20,33 +21,33 @@ use Rattle.rounds.proofs.round.Statement.{statement}
 use Rattle.rounds.proofs.round.Tie as tie
 
 -- where the function starts, from the places that are used
-abbrev start : tie.After-widened → tie.Start
-start c = c .before .before .before .before
+abbrev start : tie.After-limit-of → tie.Start
+start c = c .before .before .before
 
-abbrev projecting : tie.After-struct-known → tie.After-widened
+abbrev projecting : tie.After-struct-known → tie.After-limit-of
 projecting c = c .before .before .before .before
 
 limit-of-requires : tie.Need-limit-of-requires
 limit-of-requires c κs = search needs
 
-widened-requires : tie.Need-widened-requires
-widened-requires c κs = search needs
+cast-most : tie.Need-cast-most
+cast-most c = search needs
 
 -- the limit and the ceiling, as the machine reads them
-limit : (c : tie.After-widened) → toZ w32 (ofZ w32 (c .before .limit-of .result)) ≡ limit-of (start c .args .colour .threshold)
-limit c = read-is w32 (c .before .limit-of .ok) (c .before .limit-of .ensures)
+limit : (c : tie.After-limit-of) → toZ w32 (ofZ w32 (c .limit-of .result)) ≡ limit-of (start c .args .colour .threshold)
+limit c = read-is w32 (c .limit-of .ok) (c .limit-of .ensures)
 
-most : (c : tie.After-widened) → toZ w32 (ofZ w32 (c .widened .result)) ≡ pos (start c .args .top)
-most c = read-is w32 (c .widened .ok) (c .widened .ensures)
+most : (c : tie.After-limit-of) → toZ w32 (start c .args .top) ≡ pos (start c .args .top)
+most c = toZ-pos w32 (omega arith)
 
-limit-distance : (c : tie.After-widened) → Distance (toZ w32 (ofZ w32 (c .before .limit-of .result)))
+limit-distance : (c : tie.After-limit-of) → Distance (toZ w32 (ofZ w32 (c .limit-of .result)))
 limit-distance c = subst Distance (sym (limit c)) (unfold limit-of in (record { sign = tt; small = omega arith }))
 
 project-requires : tie.Need-project-requires
 project-requires c κs =
     let s = start (c .before) in
     let a = s .args in
-    projectable (a .colour .width) (a .colour .height) (now (a .mosaic)) (now (a .green)) (now (a .work)) (s .pre .0) (s .pre .3) (λ k. omega (arith, c .before .before .before .shared-slice-known2 .given k)) _ (limit-distance (c .before))
+    projectable (a .colour .width) (a .colour .height) (now (a .mosaic)) (now (a .green)) (now (a .work)) (s .pre .0) (s .pre .3) (λ k. omega (arith, c .before .before .shared-slice-known2 .given k)) _ (limit-distance (c .before))
 
 -- the colour's first place is near
 near : (s : tie.Start) → s .args .colour .row * s .args .colour .width ≤ 2 * s .args .colour .width
@@ -102,7 +103,7 @@ round-spec =
     tie.close
     (tie.spec
     limit-of-requires
-    widened-requires
+    cast-most
     project-requires
     mul-first
     add-first
