@@ -7,7 +7,7 @@ use Prim.Native.Nat.{ℕ, zero, suc, _<_, min}
 use native.Mathlib.Omega.{arith}
 use lib.Dec.{T, leb}
 use borrow.Author.Tests.{le-leb, lt-leb, leb-true, leb-false}
-use Rattle.questions.specs.Settings.{settings, ceiling-of}
+use Rattle.questions.specs.Settings.{settings, ceiling, ceiling-of}
 use Rattle.questions.specs.Questions.{Question, question, ask, size-questions, shape-questions, settings-questions, frame-questions}
 use Rattle.questions.specs.Answers.{Numbered, if-accepted}
 use Rattle.questions.specs.declared.Settings.{Settings}
@@ -70,11 +70,11 @@ module _ (w h layout : ℕ) {l : ℕ} (pl : l ≡ min layout 255) where
 
     settings-asked : settings-questions s ≡ settings-questions given
     unfolding ceiling-of
-    settings-asked = λ i. question 4 (cut-asked 255 64 rounds (ap (λ (x : Settings). x .rounds) ps) (omega arith) i) ∷ question 5 (cut-asked 65535 4095 threshold (ap (λ (x : Settings). x .threshold) ps) (omega arith) i) ∷ []
+    settings-asked = λ i. question 4 (cut-asked 255 64 rounds (ap (λ (x : Settings). x .rounds) ps) (omega arith) i) ∷ question 5 (cut-asked 65535 ceiling threshold (ap (λ (x : Settings). x .threshold) ps) (omega arith) i) ∷ []
 
     settings-kept : AllYes (settings-questions given) → s ≡ given
     unfolding ceiling-of
-    settings-kept y = ps ∙ (λ i. settings (cut-kept 255 64 rounds refl (omega arith) (y .0) i) (cut-kept 65535 4095 threshold refl (omega arith) (y .1 .0) i))
+    settings-kept y = ps ∙ (λ i. settings (cut-kept 255 64 rounds refl (omega arith) (y .0) i) (cut-kept 65535 ceiling threshold refl (omega arith) (y .1 .0) i))
 
     -- a call that asks 1 to 5 and then `rest`, by the ceiling, whose new contents are told by layout and settings
     module _ {A : Type 0} (rest : ℕ → List Question) (t : T (numbered (rest (ceiling-of given)))) (new : ℕ → Settings → A) (old : A) where

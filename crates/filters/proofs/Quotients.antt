@@ -16,6 +16,7 @@ use Rattle.integers.proofs.Tests.{never}
 use Rattle.integers.proofs.Linear.{linear, number, x₀, neg, _⊕_, _⊖_}
 use Rattle.integers.proofs.Bounds.{abs-minus, minus-pos, fits-abs, Bound}
 use Rattle.integers.proofs.Rounding.{whole-divided-next}
+use Rattle.questions.specs.Settings.{ceiling}
 use Rattle.filters.specs.Bank.{brought-back, Roundable}
 
 not-below {ℓ} : {X : Type ℓ} (m : ℕ) → ltZ (pos m) (pos 0) ≡ true → X
@@ -74,7 +75,7 @@ rounded-from s =
     ∙ ap (λ (z : ℤ). whole-divided z 1024) (linear (s ∷ []) (x₀ ⊖ number (pos 512) ⊕ number (pos 1024)) (x₀ ⊕ number (pos 512)) tt)
 
 -- 512 gives 1, −512 gives 0, −513 gives −1 before clipping, and 0 after it
-pub rounded-examples : (rounded 1024 (pos 512) ≡ pos 1) × (rounded 1024 (negℤ (pos 512)) ≡ pos 0) × (rounded 1024 (negℤ (pos 513)) ≡ negℤ (pos 1)) × (brought-back 4095 (negℤ (pos 513)) ≡ 0)
+pub rounded-examples : (rounded 1024 (pos 512) ≡ pos 1) × (rounded 1024 (negℤ (pos 512)) ≡ pos 0) × (rounded 1024 (negℤ (pos 513)) ≡ negℤ (pos 1)) × (brought-back ceiling (negℤ (pos 513)) ≡ 0)
 unfolding rounded whole-divided brought-back clamp
 rounded-examples = (refl, refl, refl, refl)
 

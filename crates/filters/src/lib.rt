@@ -2,6 +2,7 @@
 ghost use mathlib.Core.Path.{_≡_};
 ghost use lib.IntN.{pos};
 ghost use Rattle.integers.specs.Numbers.{whole-divided, rounded, clamp};
+ghost use Rattle.questions.specs.Settings.{ceiling};
 ghost use Rattle.filters.specs.Bank.{Small, Roundable, low-split, high-split, low-join, high-join, weighted, rescaled, brought-back};
 
 // 1 2 1
@@ -87,7 +88,7 @@ pub fn rescale_bounded(sum: i32, least: i32, most: i32) -> i32
 
 // A sum brought back to a sample, 0..4,095.
 pub fn bring_back(sum: i32) -> u16
-    ensures { λ r. ⌜ r ≡ brought-back 4095 sum ⌝ }
+    ensures { λ r. ⌜ r ≡ brought-back ceiling sum ⌝ }
 {
     rescale(sum, 0, 4095) as u16
 }

@@ -13,6 +13,7 @@ use borrow.Author.Needs.{needs}
 use Rattle.integers.specs.Numbers.{rounded, clamp}
 use Rattle.integers.proofs.Bounds.{read-is}
 use Rattle.integers.proofs.Clamping.{clamp-sample}
+use Rattle.questions.specs.Settings.{ceiling}
 use Rattle.filters.specs.Bank.{brought-back}
 use Rattle.filters.proofs.bring_back.Statement.{statement}
 use Rattle.filters.proofs.bring_back.Tie as tie
@@ -21,12 +22,12 @@ rescale-requires : tie.Need-rescale-requires
 rescale-requires c κs = search needs
 
 -- the clipped quotient, as the machine reads it
-same : (c : tie.After-rescale) → toZ w32 (ofZ w32 (c .rescale .result)) ≡ clamp (pos 0) (pos 4095) (rounded 1024 (c .before .args .sum))
-same c = read-is w32 (c .rescale .ok) (c .rescale .ensures) ∙ ap (λ z. clamp (pos 0) (pos 4095) (rounded 1024 z)) (back (c .before .fits .sum))
+same : (c : tie.After-rescale) → toZ w32 (ofZ w32 (c .rescale .result)) ≡ clamp (pos 0) (pos ceiling) (rounded 1024 (c .before .args .sum))
+same c = read-is w32 (c .rescale .ok) (c .rescale .ensures) ∙ ap (λ z. clamp (pos 0) (pos ceiling) (rounded 1024 z)) (back (c .before .fits .sum))
 
 cast-result : tie.Need-cast-result
 cast-result c =
-    let s = subst (λ (z : ℤ). (natAbs z ≤ 4095) × (pos (natAbs z) ≡ z)) (sym (same c)) (clamp-sample 4095 (rounded 1024 (c .before .args .sum))) in
+    let s = subst (λ (z : ℤ). (natAbs z ≤ ceiling) × (pos (natAbs z) ≡ z)) (sym (same c)) (clamp-sample ceiling (rounded 1024 (c .before .args .sum))) in
     (subst (λ (z : ℤ). T (nonNeg z)) (s .1) tt, record { fits = omega (arith, s .0) })
 
 returns : tie.Need-returns
