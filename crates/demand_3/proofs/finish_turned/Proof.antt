@@ -23,45 +23,52 @@ number-requires c κs = search needs
 number-requires-2 : tie.Need-number-requires-2
 number-requires-2 c κs = search needs
 
+-- the two finishings, and the turning calls between them
+abbrev second-run : tie.After-number2 → tie.After-finish-standing2
+second-run c = c .before .before .before .before .before .before .before .before .before
+
+abbrev moving : tie.After-number2 → tie.After-turn-all
+moving c = second-run c .before .before .before .before .before .before .before .before .before .before .before
+
+abbrev first-run : tie.After-number2 → tie.After-finish-standing
+first-run c = moving c .before .before .before .before .before .before .before .before .before .before
+
 same-length : tie.Need-same-length
-same-length c = search needs
+same-length c = moving c .turn-all .kept .1 .1 .0
 
 same-length-2 : tie.Need-same-length-2
-same-length-2 c = search needs
+same-length-2 c = moving c .turn-all .kept .1 .1 .1 .0
 
 same-length-3 : tie.Need-same-length-3
-same-length-3 c = search needs
+same-length-3 c = first-run c .finish-standing .kept .1 .1 .1 .1 .0
 
 same-length-4 : tie.Need-same-length-4
-same-length-4 c = search needs
+same-length-4 c = first-run c .finish-standing .kept .1 .1 .1 .1 .1 .0
 
 same-length-5 : tie.Need-same-length-5
-same-length-5 c = search needs
+same-length-5 c = first-run c .finish-standing .kept .1 .1 .1 .1 .1 .1 .0
 
 same-length-6 : tie.Need-same-length-6
-same-length-6 c = search needs
+same-length-6 c = first-run c .finish-standing .kept .1 .1 .1 .1 .1 .1 .1 .0
 
 same-length-7 : tie.Need-same-length-7
-same-length-7 c = search needs
+same-length-7 c = second-run c .finish-standing2 .kept .1 .1 .1 .1 .0
 
 same-length-8 : tie.Need-same-length-8
-same-length-8 c = search needs
+same-length-8 c = second-run c .finish-standing2 .kept .1 .1 .1 .1 .1 .0
 
 same-length-9 : tie.Need-same-length-9
-same-length-9 c = search needs
+same-length-9 c = second-run c .finish-standing2 .kept .1 .1 .1 .1 .1 .1 .0
 
 same-length-10 : tie.Need-same-length-10
-same-length-10 c = search needs
+same-length-10 c = second-run c .finish-standing2 .kept .1 .1 .1 .1 .1 .1 .1 .0
 
 returns : tie.Need-returns
 returns c =
-    let second = c .before .before .before .before .before .before .before .before .before in
-    let moved = second .before .before .before .before .before .before .before .before .before .before .before in
-    let first = moved .before .before .before .before .before .before .before .before .before .before in
-    let a = first .before .before .before .before .before .before .before .before .before .before .before .before .before .before .before .before .args in
+    let a = first-run c .before .before .before .before .before .before .before .before .before .before .before .before .before .before .before .before .args in
     run-alike (now (a .turns)) (frame (a .width) (a .height) (a .layout) (now (a .first))) (now (a .second)) (a .settings)
     (lent (now (a .red1)) (now (a .green1)) (now (a .blue1)) (now (a .work1))) (lent (now (a .red2)) (now (a .green2)) (now (a .blue2)) (now (a .work2)))
-    (first .finish-standing .ensures) (moved .turn-all .ensures) (second .finish-standing2 .ensures) (c .before .number .ensures) (c .number2 .ensures)
+    (first-run c .finish-standing .ensures) (moving c .turn-all .ensures) (second-run c .finish-standing2 .ensures) (c .before .number .ensures) (c .number2 .ensures)
 
 pub finish-turned-spec : {M : Type 1} → statement M
 finish-turned-spec =
