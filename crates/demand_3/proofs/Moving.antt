@@ -14,7 +14,7 @@ use Rattle.turns.specs.Frames.{Frame, frame, turn-frame}
 use Rattle.turns.specs.Turning.{frame-questions, TurnResult}
 use Rattle.turns.specs.declared.TurnedFrame.{TurnedFrame}
 use Rattle.turns.specs.declared.TurnedFrame.the-variants.{Accepted, Refused}
-use Rattle.work_buffer.specs.Lent.{Lent, rooms-of}
+use Rattle.work_buffer.specs.Lent.{Lent}
 use Rattle.finishing.specs.Calls.{FrameResult, FinishNumber}
 use Rattle.finishing.specs.Turnings.{turned-planes}
 use Rattle.finishing.proofs.Calls.{frame-number}

@@ -17,7 +17,7 @@ use Rattle.packet.specs.declared.Fields.{Fields}
 use Rattle.estimate.specs.Calls.{estimate-questions, estimate-lists, EstimateLeaves, EstimateResult}
 use Rattle.estimate.specs.Calls as estimate-call
 use Rattle.estimate.specs.declared.EstimateAnswer.{EstimateAnswer}
-use Rattle.update.specs.Calls.{updating-questions, update-questions, update-list, UpdateLeaves, UpdateResult}
+use Rattle.update.specs.Calls.{update-questions, update-list, UpdateLeaves, UpdateResult}
 use Rattle.update.specs.Calls as update-call
 use Rattle.update.specs.declared.UpdateAnswer.{UpdateAnswer}
 use Rattle.work_buffer.specs.Buffer.{zeroed}

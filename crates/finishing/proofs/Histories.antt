@@ -1,5 +1,5 @@
 -- The tally over every list of finishing calls. Assumes nothing.
-use mathlib.Core.Path.{_≡_, refl, sym, _∙_, ap}
+use mathlib.Core.Path.{_≡_, refl, _∙_, ap}
 use mathlib.Core.List.{List, [], _∷_}
 use Rattle.questions.specs.Settings.{rounds-of}
 use Rattle.questions.specs.Questions.{ask}

@@ -6,7 +6,7 @@ use Rattle.questions.specs.Settings.{ceiling-of}
 use Rattle.questions.specs.declared.Settings.{Settings}
 use Rattle.turns.specs.Frames.{Frame, frame, Planes, planes, listing, plane-of, picture-of, frame-of, turn-frame}
 use Rattle.turns.specs.Operations.{Operation}
-use Rattle.turns.specs.Pictures.{steps-of, turned, _≈_}
+use Rattle.turns.specs.Pictures.{steps-of, turned}
 use Rattle.turns.proofs.Pictures.{≈-sym, ≈-trans, turned-by-≈}
 use Rattle.turns.proofs.Commuting.{Commutes, same, composed, paired, pointwise, apply, apply-≈, apply-turned}
 use Rattle.turns.proofs.Frames.{picture-of-frame, frame-of-≈}

@@ -63,7 +63,7 @@ abbrev pub tally-of-finish : FinishAnswer → Tally
 tally-of-finish (finish-answer.Accepted tally) = tally
 tally-of-finish (finish-answer.Refused number tally) = tally
 
--- the answer of a call without a tally, and that tally
+-- inner: the answer of a call without a tally, with the next tally in it
 abbrev pub with-tally : Answer → Tally → FinishAnswer
 with-tally answer.Accepted tally = finish-answer.Accepted tally
 with-tally (answer.Refused number) tally = finish-answer.Refused number tally

@@ -12,13 +12,13 @@ use Rattle.questions.specs.declared.Settings.{Settings}
 use Rattle.questions.proofs.Asking.{AllYes, all-yes, all-yes-split, shape-is}
 use Rattle.questions.proofs.Answering.{answer-no, answer-yes, left-no, left-yes}
 use Rattle.turns.specs.Layout.{red-row, red-column}
-use Rattle.turns.specs.Frames.{Frame, frame, Planes, planes, listing, listings, plane-of}
+use Rattle.turns.specs.Frames.{Frame, Planes, planes, listing, listings, plane-of}
 use Rattle.turns.proofs.Frames.{listing-plane-of, listing-agree}
 use Rattle.work_buffer.specs.Places.{Workable}
 use Rattle.work_buffer.specs.Lent.{Lent, lent, rooms-of, buffer-questions}
 use Rattle.work_buffer.specs.Buffer.{with-plane, zeroed}
 use Rattle.work_buffer.proofs.Buffer.{length-with-plane, zeroed-with-plane}
-use Rattle.rounds.specs.Rounds.{Round, limit-of, rewritten, rounds}
+use Rattle.rounds.specs.Rounds.{rewritten, rounds}
 use Rattle.rounds.specs.Colours.{round-of}
 use Rattle.rounds.specs.Calls.{planes-questions, rounds-questions, number-of-answer, rounds-lists, with-rounds, RoundsResult}
 use Rattle.rounds.specs.declared.Colour.{Colour}

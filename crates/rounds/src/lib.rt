@@ -9,7 +9,7 @@ ghost use Rattle.questions.specs.Questions.{ask};
 ghost use Rattle.turns.specs.Frames.{frame, planes, listing, plane-of};
 ghost use Rattle.lines.specs.Lines.{value};
 ghost use Rattle.work_buffer.specs.Places.{place, sample, put, Seconds, SecondRows, Narrow, Workable};
-ghost use Rattle.work_buffer.specs.Buffer.{with-plane, zeroed};
+ghost use Rattle.work_buffer.specs.Buffer.{with-plane};
 ghost use Rattle.work_buffer.specs.Lent.{lent};
 ghost use Rattle.rounds.specs.Rounds.{limit-of, round, after-rounds, rewritten};
 ghost use Rattle.rounds.specs.Colours.{round-of};
