@@ -1,4 +1,4 @@
--- The laws of the bank's calls: what an accepted call knows, what each leaves, and what the two leave one after the other.
+-- The laws of the bank's calls: what an accepted call knows, and what the two leave one after the other.
 -- Assumes nothing.
 use mathlib.Core.Path.{_≡_, refl, sym, _∙_, ap, subst}
 use mathlib.Core.Bool.{true, false}
@@ -16,20 +16,20 @@ use Rattle.integers.proofs.Tests.{is-true, true-is, never}
 use Rattle.integers.proofs.Order.{le-of-not-lt, abs-between}
 use Rattle.integers.proofs.Bounds.{abs-neg}
 use Rattle.integers.proofs.Lists.{length-tabulate, getD-tabulate, tabulate-cong, tabulate-getD, map-tabulate}
+use Rattle.planes.specs.Planes.{listing, plane-of}
+use Rattle.planes.specs.Lists.{value}
+use Rattle.planes.proofs.Planes.{row-inside, column-inside, place-inside, length-listing, plane-of-listing, listing-agree}
 use Rattle.questions.specs.Questions.{ask, all-at-most, size-questions}
+use Rattle.questions.specs.Calls.{number-of-answer, Result}
+use Rattle.questions.specs.declared.Answer.{Answer}
 use Rattle.questions.proofs.Asking.{AllYes, all-yes, all-yes-split, ask-zero, between-yes, between-is, area-bound, all-at-most-at, all-at-most-by}
-use Rattle.questions.proofs.Answering.{answer-no, answer-yes, left-no, left-yes}
-use Rattle.turns.specs.Frames.{listing, plane-of}
-use Rattle.turns.proofs.Frames.{row-inside, column-inside, place-inside, length-listing, plane-of-listing, listing-agree}
+use Rattle.questions.proofs.Answering.{new-left}
 use Rattle.filters.specs.Bank.{Bands, split}
 use Rattle.filters.proofs.Reconstruction.{reconstruct}
 use Rattle.filters.proofs.Ranges.{split-range}
 use Rattle.filters.proofs.Turned.{join-commutes}
-use Rattle.lines.specs.Lines.{value}
 use Rattle.bank.specs.Planes.{Sizes, Plane, plane, bands-of}
-use Rattle.bank.specs.Calls.{bands, lengths, to-split, to-join, splitting-questions, split-questions, joining-questions, join-questions, number-of-answer, split-lists, join-list, SplitResult, JoinResult}
-use Rattle.bank.specs.declared.BankAnswer.{BankAnswer}
-use Rattle.bank.specs.declared.BankAnswer.the-variants.{Accepted, Refused}
+use Rattle.bank.specs.Calls.{bands, band-lengths, to-split, to-join, splitting-questions, split-questions, joining-questions, join-questions, split-lists, join-list, split-call, join-call}
 
 -- ---- 15, of one value, by the two tests
 pub beyond-below : (most v : ℤ) → T (nonNeg most) → ltZ v (pos 0 -ℤ most) ≡ true → leb (natAbs v) (natAbs most) ≡ false
@@ -116,33 +116,6 @@ joinable w h given room n e z =
       buffer = eqb-true room (w * h) (q .1 .1 .1 .1 .0);
     }
 
--- ---- what each leaves, refused and accepted
-module _ (w h : ℕ) (given : List ℤ) (before : Bands (List ℤ)) (n : ℕ) (e : n ≡ ask (split-questions w h given (lengths before))) where
-  pub split-no : (n ≡ 0 → ⊥) → SplitResult w h given before (Refused n) before
-  split-no z = record {
-    answer = answer-no number-of-answer (split-questions w h given (lengths before)) Accepted (Refused n) e z;
-    leaves = left-no (split-questions w h given (lengths before)) (split-lists w h given) before n e z;
-  }
-
-  pub split-yes : n ≡ 0 → (after : Bands (List ℤ)) → after ≡ split-lists w h given → SplitResult w h given before Accepted after
-  split-yes z after p = record {
-    answer = answer-yes number-of-answer (split-questions w h given (lengths before)) Accepted Accepted n e z refl refl;
-    leaves = p ∙ left-yes (split-questions w h given (lengths before)) (split-lists w h given) before n e z;
-  }
-
-module _ (w h : ℕ) (given : Bands (List ℤ)) (before : List ℤ) (n : ℕ) (e : n ≡ ask (join-questions w h given (length before))) where
-  pub join-no : (n ≡ 0 → ⊥) → JoinResult w h given before (Refused n) before
-  join-no z = record {
-    answer = answer-no number-of-answer (join-questions w h given (length before)) Accepted (Refused n) e z;
-    leaves = left-no (join-questions w h given (length before)) (join-list w h given) before n e z;
-  }
-
-  pub join-yes : n ≡ 0 → (after : List ℤ) → after ≡ join-list w h given → JoinResult w h given before Accepted after
-  join-yes z after p = record {
-    answer = answer-yes number-of-answer (join-questions w h given (length before)) Accepted Accepted n e z refl refl;
-    leaves = p ∙ left-yes (join-questions w h given (length before)) (join-list w h given) before n e z;
-  }
-
 -- ---- demand 2, of the calls: what join leaves after split is 1,024 times the plane
 -- a plane's values in range answer 15 yes
 values-yes : (most : ℕ) (l : List ℤ) (n : ℕ) → length l ≡ n → ((k : ℕ) → k < n → natAbs (value l k) ≤ most) → all-at-most most (map natAbs l) ≡ true
@@ -223,22 +196,19 @@ module _ (w h : ℕ) (given : List ℤ) (z : Sizes w h) (p : Plane to-split give
           at f = plane-of-listing (pos 0) w h (λ i j. f (split 1 w h (plane w given) i j)) r c hr hc
 
 -- Where split is accepted and the sums have room, join of what split leaves is accepted, and leaves 1,024 times the plane.
-pub split-then-join : (w h : ℕ) (given : List ℤ) (before : Bands (List ℤ)) (r : BankAnswer) (after : Bands (List ℤ)) → SplitResult w h given before r after → number-of-answer r ≡ 0
-    → (sums : List ℤ) (s : BankAnswer) (last : List ℤ) → JoinResult w h after sums s last → length sums ≡ w * h
+pub split-then-join : (w h : ℕ) (given : List ℤ) (before : Bands (List ℤ)) (r : Answer) (after : Bands (List ℤ)) → Result (split-call w h given before) r after → number-of-answer r ≡ 0
+    → (sums : List ℤ) (s : Answer) (last : List ℤ) → Result (join-call w h after sums) s last → length sums ≡ w * h
     → (number-of-answer s ≡ 0) × (last ≡ map (λ x. pos 1024 *ℤ x) given)
-split-then-join w h given before r after p z sums s last q e = (number ∙ accepts, left ∙ joined-again w h given (k .sizes) (k .plane))
+split-then-join w h given before r after p z sums s last q e = (
+  q .answer .number ∙ accepts,
+  new-left (join-call w h after sums) (q .leaves) accepts ∙ ap (join-list w h) laid ∙ joined-again w h given (k .sizes) (k .plane),
+)
   where
-    k : Splittable w h given (lengths before)
-    k = splittable w h given (lengths before) (number-of-answer r) (p .answer .number) z
+    k : Splittable w h given (band-lengths before)
+    k = splittable w h given (band-lengths before) (number-of-answer r) (p .answer .number) z
 
-    laid : split-lists w h given ≡ after
-    laid = left-yes (split-questions w h given (lengths before)) (split-lists w h given) before (number-of-answer r) (p .answer .number) z ∙ sym (p .leaves)
+    laid : after ≡ split-lists w h given
+    laid = new-left (split-call w h given before) (p .leaves) (sym (p .answer .number) ∙ z)
 
     accepts : ask (join-questions w h after (length sums)) ≡ 0
-    accepts = ap (λ (b : Bands (List ℤ)). ask (join-questions w h b (length sums))) (sym laid) ∙ join-accepts w h given (k .sizes) (k .plane) (length sums) e
-
-    number : number-of-answer s ≡ ask (join-questions w h after (length sums))
-    number = q .answer .number
-
-    left : last ≡ join-list w h (split-lists w h given)
-    left = q .leaves ∙ sym (left-yes (join-questions w h after (length sums)) (join-list w h after) sums 0 (sym accepts) refl) ∙ ap (join-list w h) (sym laid)
+    accepts = ap (λ (b : Bands (List ℤ)). ask (join-questions w h b (length sums))) laid ∙ join-accepts w h given (k .sizes) (k .plane) (length sums) e

@@ -11,14 +11,15 @@ use Rattle.integers.proofs.Lists.{overwrite-in, overwrite-cong}
 use Rattle.integers.proofs.Bounds.{abs-add}
 use Rattle.border.specs.Border.{reflect}
 use Rattle.border.proofs.Reflection.{reflect-lt, reflect-inside}
-use Rattle.turns.specs.Frames.{plane-of}
-use Rattle.turns.proofs.Frames.{row-room, place-inside}
+use Rattle.planes.specs.Planes.{plane-of}
+use Rattle.planes.specs.Lists.{value}
+use Rattle.planes.proofs.Planes.{row-room, place-inside}
 use Rattle.filters.specs.Bank.{Taps, weighted, tap, along, along-columns, filtered, Bands, join, low-join, high-join}
 use Rattle.filters.proofs.Taps.{weighted-three}
 use Rattle.filters.proofs.Ranges.{gain}
 use Rattle.filters.proofs.Linearity.{along-cong, filtered-by-rows, join-by-rows}
 use Rattle.lines.specs.declared.Five.{Five}
-use Rattle.lines.specs.Lines.{value, Run, Runs, three, five, joined}
+use Rattle.lines.specs.Lines.{Run, Runs, three, five, joined}
 use Rattle.lines.proofs.Lines.{run-laid, three-range, five-range}
 use Rattle.bank.specs.Planes.{Sizes, Plane, plane, bands-of}
 

@@ -1,24 +1,22 @@
 -- The bank's calls: what each asks, and what its answer and its buffers are then. Assumes nothing.
-use mathlib.Core.Path.{_≡_}
 use mathlib.Core.List.{List, [], _∷_, _++_, map}
 use Prim.Native.Nat.{ℕ, _*_}
 use lib.Dec.{eqb}
 use lib.IntN.{ℤ, natAbs}
 use lib.ListN.{length}
+use Rattle.planes.specs.Planes.{listing}
 use Rattle.questions.specs.Questions.{Question, question, all-at-most, size-questions}
-use Rattle.questions.specs.Answers.{Answered, if-accepted}
-use Rattle.turns.specs.Frames.{listing}
+use Rattle.questions.specs.Calls.{Call, plain-call}
+use Rattle.questions.specs.declared.Answer.{Answer}
 use Rattle.filters.specs.Bank.{Bands, split, join}
 use Rattle.bank.specs.Planes.{plane, bands-of}
-use Rattle.bank.specs.declared.BankAnswer.{BankAnswer}
-use Rattle.bank.specs.declared.BankAnswer.the-variants as bank-answer
 
 -- four of a kind, that of band 1 first
 abbrev pub bands : {A : Type 0} → A → A → A → A → Bands A
 bands a b c d = record { band1 = a; band2 = b; band3 = c; band4 = d }
 
-abbrev pub lengths : Bands (List ℤ) → Bands ℕ
-lengths l = bands (length (l .band1)) (length (l .band2)) (length (l .band3)) (length (l .band4))
+abbrev pub band-lengths : Bands (List ℤ) → Bands ℕ
+band-lengths l = bands (length (l .band1)) (length (l .band2)) (length (l .band3)) (length (l .band4))
 
 -- ---- the questions, in document 01's order
 -- values to split lie in −8,190..8,190, values to join in −131,040..131,040
@@ -27,6 +25,10 @@ to-split = 8190
 
 abbrev pub to-join : ℕ
 to-join = 131040
+
+-- so a sum lies within ±75,479,040 (law `sums-in-range`)
+abbrev pub sum-within : ℕ
+sum-within = 75479040
 
 -- 15 values in −most..most
 abbrev pub values-question : ℕ → List ℤ → Question
@@ -52,16 +54,11 @@ split-questions width height given rooms = size-questions 1 width height ++ spli
 -- 6, 7 and 15 of join, where a plane has `count` numbers and the sums have room for so many
 abbrev pub joining-questions : ℕ → Bands (List ℤ) → ℕ → List Question
 joining-questions count given room =
-    band-questions 6 count (lengths given) ++ (question 7 (eqb room count) ∷ values-questions to-join given)
+    band-questions 6 count (band-lengths given) ++ (question 7 (eqb room count) ∷ values-questions to-join given)
 
 -- join: 1 and 2 (from 1), and then those
 abbrev pub join-questions : ℕ → ℕ → Bands (List ℤ) → ℕ → List Question
 join-questions width height given room = size-questions 1 width height ++ joining-questions (width * height) given room
-
--- document 01's number of an answer
-abbrev pub number-of-answer : BankAnswer → ℕ
-number-of-answer bank-answer.Accepted = 0
-number-of-answer (bank-answer.Refused number) = number
 
 -- ---- what is promised
 -- the four bands of a plane, row by row
@@ -74,20 +71,11 @@ split-lists w h given =
 unfoldable pub join-list : ℕ → ℕ → Bands (List ℤ) → List ℤ
 join-list w h given = listing w h (join 1 w h (bands-of w given))
 
--- split, given a plane and four buffers that held `before`: what the buffers hold `after`
-abbrev pub SplitLeaves : ℕ → ℕ → List ℤ → Bands (List ℤ) → Bands (List ℤ) → Type 0
-SplitLeaves width height given before after = after ≡ if-accepted (split-questions width height given (lengths before)) (split-lists width height given) before
+-- ---- the calls
+-- split, given a plane and four buffers that held `before`: they hold its bands then
+abbrev pub split-call : ℕ → ℕ → List ℤ → Bands (List ℤ) → Call Answer (Bands (List ℤ))
+split-call width height given before = plain-call (split-questions width height given (band-lengths before)) (split-lists width height given) before
 
--- and its answer r
-pub record SplitResult (width height : ℕ) (given : List ℤ) (before : Bands (List ℤ)) (r : BankAnswer) (after : Bands (List ℤ)) : Type 0 where
-  pub answer : Answered number-of-answer (split-questions width height given (lengths before)) bank-answer.Accepted r
-  pub leaves : SplitLeaves width height given before after
-
--- join, given four bands and a buffer that held `before`: what the buffer holds `after`
-abbrev pub JoinLeaves : ℕ → ℕ → Bands (List ℤ) → List ℤ → List ℤ → Type 0
-JoinLeaves width height given before after = after ≡ if-accepted (join-questions width height given (length before)) (join-list width height given) before
-
--- and its answer r
-pub record JoinResult (width height : ℕ) (given : Bands (List ℤ)) (before : List ℤ) (r : BankAnswer) (after : List ℤ) : Type 0 where
-  pub answer : Answered number-of-answer (join-questions width height given (length before)) bank-answer.Accepted r
-  pub leaves : JoinLeaves width height given before after
+-- join, given four bands and a buffer that held `before`: it holds their sums then
+abbrev pub join-call : ℕ → ℕ → Bands (List ℤ) → List ℤ → Call Answer (List ℤ)
+join-call width height given before = plain-call (join-questions width height given (length before)) (join-list width height given) before

@@ -4,9 +4,9 @@ use mathlib.Core.List.{List}
 use Prim.Native.Nat.{ℕ, _*_, _≤_, _<_}
 use lib.IntN.{ℤ, pos, natAbs}
 use lib.ListN.{length}
-use Rattle.turns.specs.Frames.{plane-of}
+use Rattle.planes.specs.Planes.{plane-of}
+use Rattle.planes.specs.Lists.{value}
 use Rattle.filters.specs.Bank.{Bands}
-use Rattle.lines.specs.Lines.{value}
 
 -- a width and a height that the bank takes
 pub record Sizes (w h : ℕ) : Type 0 where

@@ -1,4 +1,5 @@
-// Document 01's filter bank: split and join.
+// Document 01's filter bank: split, join, and bringing a sum back.
+use questions::Answer;
 ghost use mathlib.Core.Path.{_≡_};
 ghost use mathlib.Core.List.{map};
 ghost use mathlib.Core.Bool.{cond};
@@ -6,30 +7,15 @@ ghost use Prim.Native.Nat.{_+_, _*_, _≤_, _<_};
 ghost use lib.Dec.{leb};
 ghost use lib.IntN.{natAbs};
 ghost use lib.ListN.{length};
+ghost use Rattle.integers.specs.Numbers.{rounded};
 ghost use Rattle.integers.specs.Lists.{overwrite};
+ghost use Rattle.planes.specs.Planes.{listing};
+ghost use Rattle.questions.specs.Settings.{ceiling};
 ghost use Rattle.questions.specs.Questions.{ask, all-at-most};
-ghost use Rattle.turns.specs.Frames.{listing};
-ghost use Rattle.filters.specs.Bank.{Distance, split as split-plane, join as join-bands};
+ghost use Rattle.questions.specs.Calls.{Result};
+ghost use Rattle.filters.specs.Bank.{Distance, split as split-plane, join as join-bands, brought-back};
 ghost use Rattle.bank.specs.Planes.{Sizes, Plane, plane, bands-of};
-ghost use Rattle.bank.specs.Calls.{bands, to-split, to-join, values-questions, split-questions, join-questions, number-of-answer, SplitResult, JoinResult};
-
-// What split and join answer.
-pub enum BankAnswer {
-    Accepted,
-    Refused(u32),
-}
-
-impl BankAnswer {
-    // Document 01's number of a refusal, or 0.
-    pub fn number(self) -> u32
-        ensures { λ r. ⌜ r ≡ number-of-answer self ⌝ }
-    {
-        match self {
-            BankAnswer::Accepted => 0,
-            BankAnswer::Refused(number) => number,
-        }
-    }
-}
+ghost use Rattle.bank.specs.Calls.{bands, to-split, to-join, values-questions, split-questions, join-questions, split-call, join-call};
 
 // 1 where a value is farther from 0 than `most`, else what was found before.
 fn marked(most: i32, value: i32, found: u32) -> u32
@@ -174,8 +160,8 @@ pub fn split(
     band2: &mut [i32],
     band3: &mut [i32],
     band4: &mut [i32],
-) -> BankAnswer
-    ensures { λ r. ⌜ SplitResult width height (now (plane .entry)) (bands (now (band1 .entry)) (now (band2 .entry)) (now (band3 .entry)) (now (band4 .entry))) r (bands (now (band1 .exit)) (now (band2 .exit)) (now (band3 .exit)) (now (band4 .exit))) ⌝ }
+) -> Answer
+    ensures { λ r. ⌜ Result (split-call width height (now (plane .entry)) (bands (now (band1 .entry)) (now (band2 .entry)) (now (band3 .entry)) (now (band4 .entry)))) r (bands (now (band1 .exit)) (now (band2 .exit)) (now (band3 .exit)) (now (band4 .exit))) ⌝ }
 {
     let refusal = split_refusal(
         width,
@@ -187,7 +173,7 @@ pub fn split(
         band4.len(),
     );
     if refusal != 0 {
-        return BankAnswer::Refused(refusal);
+        return Answer::Refused(refusal);
     }
     let mut low = [0i32; 2050];
     let mut high = [0i32; 2050];
@@ -202,7 +188,7 @@ pub fn split(
         band3,
         band4,
     );
-    BankAnswer::Accepted
+    Answer::Accepted
 }
 
 // Row r of the joined sums: along the columns, bands 1 and 3 into the padded line `low` and bands 2 and 4 into `high`, then along
@@ -338,12 +324,12 @@ pub fn join(
     band3: &[i32],
     band4: &[i32],
     sums: &mut [i32],
-) -> BankAnswer
-    ensures { λ r. ⌜ JoinResult width height (bands (now (band1 .entry)) (now (band2 .entry)) (now (band3 .entry)) (now (band4 .entry))) (now (sums .entry)) r (now (sums .exit)) ⌝ }
+) -> Answer
+    ensures { λ r. ⌜ Result (join-call width height (bands (now (band1 .entry)) (now (band2 .entry)) (now (band3 .entry)) (now (band4 .entry))) (now (sums .entry))) r (now (sums .exit)) ⌝ }
 {
     let refusal = join_refusal(width, height, band1, band2, band3, band4, sums.len());
     if refusal != 0 {
-        return BankAnswer::Refused(refusal);
+        return Answer::Refused(refusal);
     }
     let mut low = [0i32; 2052];
     let mut high = [0i32; 2052];
@@ -358,5 +344,24 @@ pub fn join(
         &mut high,
         sums,
     );
-    BankAnswer::Accepted
+    Answer::Accepted
+}
+
+// (sum + 512) whole-divided by 1,024. From 0 on it is taken as one more than (sum − 512) divided, so that no sum wraps.
+pub fn rounded_quotient(sum: i32) -> i32
+    ensures { λ r. ⌜ r ≡ rounded 1024 sum ⌝ }
+{
+    if sum < 0 {
+        filters::whole_divided(sum + 512)
+    } else {
+        filters::whole_divided(sum - 512) + 1
+    }
+}
+
+// A sum brought back to a sample, 0..4,095.
+pub fn bring_back(sum: i32) -> u16
+    ensures { λ r. ⌜ r ≡ brought-back ceiling sum ⌝ }
+{
+    let quotient = rounded_quotient(sum);
+    filters::clipped(quotient, 0, 4095) as u16
 }

@@ -4,11 +4,11 @@ use mathlib.Core.List.{List, [], _∷_, _++_, map}
 use lib.IntN.{ℤ, pos, negℤ}
 use Prim.Native.Nat.{ℕ}
 use Rattle.border.specs.Border.{reflect}
+use Rattle.planes.specs.Planes.{Planes, frame, planes}
 use Rattle.turns.specs.Pictures.{then-another}
 use Rattle.filters.specs.Bank.{Bands}
 use Rattle.bank.specs.Calls.{split-lists, join-list}
 use Rattle.questions.specs.Settings.{ceiling, settings}
-use Rattle.turns.specs.Frames.{Planes, frame, planes}
 use Rattle.neighbourhood.specs.Place.{around, hamilton-adams}
 use Rattle.projection.specs.Projection.{held}
 use Rattle.rounds.specs.Rounds.{limit-of}

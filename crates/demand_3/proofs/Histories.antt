@@ -4,14 +4,15 @@ use mathlib.Core.Bool.{not}
 use mathlib.Core.List.{List, [], _∷_}
 use Prim.Native.Nat.{ℕ, zero, suc}
 use native.Mathlib.Omega.{arith}
+use Rattle.planes.specs.Planes.{Frame, frame}
 use Rattle.questions.specs.Questions.{ask}
-use Rattle.questions.specs.Answers.{if-accepted}
-use Rattle.turns.specs.Frames.{Frame, frame, turn-frame}
-use Rattle.turns.specs.Turning.{number-of-frame, accepted-as, TurnResult}
+use Rattle.questions.specs.Calls.{if-accepted, Result}
+use Rattle.turns.specs.Frames.{turn-frame}
+use Rattle.turns.specs.Turning.{number-of-frame, accepted-as}
 use Rattle.turns.specs.declared.TurnedFrame.{TurnedFrame}
 use Rattle.turns.specs.declared.TurnedFrame.the-variants.{Refused}
-use Rattle.finishing.specs.Turnings.{TurnRun, left-by, TurnHistory, standing, if-turned, accepted-turns}
-use Rattle.demand_3.specs.Between.{Between, between, turn-questions, turned-once, turned-all, turns-taken}
+use Rattle.finishing.specs.Turnings.{TurnRun, frame-after, TurnHistory, standing, if-turned, accepted-turns}
+use Rattle.demand_3.specs.Between.{Between, between, call-between, turned-once, turned-all, turns-taken}
 
 -- ---- a turning call
 -- its answer, by the number of the first question answered no
@@ -23,13 +24,13 @@ abbrev run-of : ℕ → Between → TurnRun
 run-of t b = record {
   turn = t;
   before = b .other;
-  answer = answer-for (ask (turn-questions t b)) (turn-frame t (b .frame));
-  after = if-accepted (turn-questions t b) (turn-frame t (b .frame) .samples) (b .other);
+  answer = answer-for (ask (call-between t b .questions)) (turn-frame t (b .frame));
+  after = if-accepted (call-between t b .questions) (turn-frame t (b .frame) .samples) (b .other);
 }
 
 module _ (t : ℕ) (b : Between) where
-  ran : TurnResult t (b .frame) (run-of t b .before) (run-of t b .answer) (run-of t b .after)
-  ran = record { answer = record { number = number (ask (turn-questions t b)); accepted = accepted (ask (turn-questions t b)) }; buffer = refl }
+  ran : Result (call-between t b) (run-of t b .answer) (run-of t b .after)
+  ran = record { answer = record { number = number (ask (call-between t b .questions)); accepted = accepted (ask (call-between t b .questions)) }; leaves = refl }
     where
       number : (n : ℕ) → number-of-frame (answer-for n (turn-frame t (b .frame))) ≡ n
       number zero = refl
@@ -40,21 +41,21 @@ module _ (t : ℕ) (b : Between) where
       accepted (suc n) z = absurd (omega arith)
 
   -- what stands after it
-  left : left-by (b .frame) (run-of t b .answer) (run-of t b .after) ≡ turned-once t b .frame
+  left : frame-after (b .frame) (run-of t b .answer) (run-of t b .after) ≡ turned-once t b .frame
   unfolding turned-once if-accepted
-  left = go (ask (turn-questions t b))
+  left = go (ask (call-between t b .questions))
     where
       g : Frame
       g = turn-frame t (b .frame)
 
-      go : (n : ℕ) → left-by (b .frame) (answer-for n g) (elim n [ zero ↦ g .samples | suc k ↦ b .other ]) ≡ (elim n as (λ k. Between) [ zero ↦ between g (b .frame .samples) (not (b .swapped)) | suc k ↦ b ]) .frame
+      go : (n : ℕ) → frame-after (b .frame) (answer-for n g) (elim n [ zero ↦ g .samples | suc k ↦ b .other ]) ≡ (elim n as (λ k. Between) [ zero ↦ between g (b .frame .samples) (not (b .swapped)) | suc k ↦ b ]) .frame
       go zero = refl
       go (suc n) = refl
 
   -- and whether its turn is taken
-  taken : (ts : List ℕ) → if-turned (run-of t b .answer) t ts ≡ if-accepted (turn-questions t b) (t ∷ ts) ts
+  taken : (ts : List ℕ) → if-turned (run-of t b .answer) t ts ≡ if-accepted (call-between t b .questions) (t ∷ ts) ts
   unfolding if-accepted
-  taken ts = go (ask (turn-questions t b))
+  taken ts = go (ask (call-between t b .questions))
     where
       go : (n : ℕ) → if-turned (answer-for n (turn-frame t (b .frame))) t ts ≡ elim n [ zero ↦ t ∷ ts | suc k ↦ ts ]
       go zero = refl
@@ -78,4 +79,4 @@ standing-of (t ∷ ts) b = ap (λ (f : Frame). standing f (runs-of ts (turned-on
 pub taken-of : (ts : List ℕ) (b : Between) → accepted-turns (runs-of ts b) ≡ turns-taken ts b
 unfolding runs-of turns-taken
 taken-of [] b = refl
-taken-of (t ∷ ts) b = taken t b (accepted-turns (runs-of ts (turned-once t b))) ∙ (λ i. if-accepted (turn-questions t b) (t ∷ taken-of ts (turned-once t b) i) (taken-of ts (turned-once t b) i))
+taken-of (t ∷ ts) b = taken t b (accepted-turns (runs-of ts (turned-once t b))) ∙ (λ i. if-accepted (call-between t b .questions) (t ∷ taken-of ts (turned-once t b) i) (taken-of ts (turned-once t b) i))

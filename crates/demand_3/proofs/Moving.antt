@@ -6,19 +6,18 @@ use Prim.Native.Nat.{ℕ, _+_, _≤_, _<_}
 use native.Mathlib.Numerals.{add-one}
 use lib.ListN.{length, drop, getD, drop-of-length-le}
 use lib.Seq.{drop-cons}
-use Rattle.questions.specs.Answers.{number-of-answer}
+use Rattle.planes.specs.Planes.{Frame, frame}
+use Rattle.questions.specs.Calls.{Result, Numbered, number-of-answer}
 use Rattle.questions.specs.declared.Settings.{Settings}
 use Rattle.questions.specs.declared.Answer.{Answer}
-use Rattle.questions.proofs.Answering.{left-no, left-yes}
-use Rattle.turns.specs.Frames.{Frame, frame, turn-frame}
-use Rattle.turns.specs.Turning.{frame-questions, TurnResult}
+use Rattle.questions.specs.Lent.{Lent}
+use Rattle.questions.proofs.Answering.{left-no, left-yes, to-number, old-left}
+use Rattle.turns.specs.Turning.{turn-questions, turn-call}
 use Rattle.turns.specs.declared.TurnedFrame.{TurnedFrame}
 use Rattle.turns.specs.declared.TurnedFrame.the-variants.{Accepted, Refused}
-use Rattle.work_buffer.specs.Lent.{Lent}
-use Rattle.finishing.specs.Calls.{FrameResult, FinishNumber}
-use Rattle.finishing.specs.Turnings.{turned-planes}
-use Rattle.finishing.proofs.Calls.{frame-number}
-use Rattle.finishing.proofs.Demand3.{leaves-turned, finished-alike}
+use Rattle.finishing.specs.Calls.{finish-call}
+use Rattle.finishing.specs.Turnings.{Alike}
+use Rattle.finishing.proofs.Demand3.{leaves-turned, demand-3-numbered}
 use Rattle.demand_3.specs.Between.{Between, between, first-holds, second-holds, turned-once, turned-all}
 use Rattle.demand_3.specs.Alike.{stands, Moved, FinishedAlike}
 use Rattle.demand_3.specs.declared.Standing.{Standing}
@@ -32,24 +31,24 @@ module _ (t : ℕ) (at : Standing) (from to : List ℕ) where
   abbrev given : Frame
   given = frame (at .width) (at .height) (at .layout) from
 
-  pub moved-yes : {r : TurnedFrame} {w h l : ℕ} {after : List ℕ} → TurnResult t given to r after → r ≡ Accepted w h l → Moved t at from to (standing-at w h l (not (at .swapped))) after
+  pub moved-yes : {r : TurnedFrame} {w h l : ℕ} {after : List ℕ} → Result (turn-call t given to) r after → r ≡ Accepted w h l → Moved t at from to (standing-at w h l (not (at .swapped))) after
   unfolding turned-once
   moved-yes {r} {w} {h} {l} {after} first e =
-      let u : TurnResult t given to (Accepted w h l) after = subst (λ (a : TurnedFrame). TurnResult t given to a after) e first in
+      let u : Result (turn-call t given to) (Accepted w h l) after = subst (λ (a : TurnedFrame). Result (turn-call t given to) a after) e first in
       (λ i. between (frame w h l (cond (other (at .swapped) i) after from)) (cond (other (at .swapped) i) from after) (not (at .swapped)))
       ∙ (λ i. between (leaves-turned t given u (sym (u .answer .number)) i) from (not (at .swapped)))
-      ∙ left-yes (frame-questions t given (length to)) _ _ 0 (u .answer .number) refl
+      ∙ left-yes (turn-questions t given (length to)) _ _ 0 (u .answer .number) refl
     where
       other : (s : Bool) → xor (not s) s ≡ true
       other true = unfold xor in refl
       other false = unfold xor in refl
 
-  pub moved-no : {r : TurnedFrame} {n : ℕ} {after : List ℕ} → TurnResult t given to r after → r ≡ Refused n → Moved t at from to at after
+  pub moved-no : {r : TurnedFrame} {n : ℕ} {after : List ℕ} → Result (turn-call t given to) r after → r ≡ Refused n → Moved t at from to at after
   unfolding turned-once
   moved-no {r} {n} {after} first e =
       (λ i. between (frame (at .width) (at .height) (at .layout) (cond (same (at .swapped) i) after from)) (cond (same (at .swapped) i) from after) (at .swapped))
       ∙ (λ i. between given (kept i) (at .swapped))
-      ∙ left-no (frame-questions t given (length to)) _ _ n (u .answer .number) refused
+      ∙ left-no (turn-questions t given (length to)) _ _ n (u .answer .number) refused
     where
       same : (s : Bool) → xor s s ≡ false
       same true = unfold xor in refl
@@ -59,14 +58,14 @@ module _ (t : ℕ) (at : Standing) (from to : List ℕ) where
       is-refusal (Accepted w h l) = ⊥
       is-refusal (Refused n) = Unit
 
-      u : TurnResult t given to (Refused n) after
-      u = subst (λ (a : TurnedFrame). TurnResult t given to a after) e first
+      u : Result (turn-call t given to) (Refused n) after
+      u = subst (λ (a : TurnedFrame). Result (turn-call t given to) a after) e first
 
       refused : n ≡ 0 → ⊥
       refused z = subst is-refusal (u .answer .accepted (sym (u .answer .number) ∙ z)) tt
 
       kept : after ≡ to
-      kept = u .buffer ∙ sym (left-no (frame-questions t given (length to)) (turn-frame t given .samples) to n (u .answer .number) refused)
+      kept = old-left (turn-call t given to) (u .leaves) (λ z. refused (u .answer .number ∙ z))
 
 -- ---- from the mosaic where the frame stands
 chosen : (s : Bool) (x y : List ℕ) → cond (xor s true) x y ≡ cond s y x
@@ -110,9 +109,9 @@ all-done ts k h {b} p = sym (ap (λ (l : List ℕ). turned-all l b) (drop-of-len
 
 -- ---- finished from the mosaic where the frame stands
 pub finished-standing : (at : Standing) (first second : List ℕ) (s : Settings) (before : Lent) {b : Bool} → at .swapped ≡ b → {r : Answer} {after : Lent}
-    → FrameResult (frame (at .width) (at .height) (at .layout) (cond b second first)) s before r after → FrameResult (stands at first second .frame) s before r after
+    → Result (finish-call (frame (at .width) (at .height) (at .layout) (cond b second first)) s before) r after → Result (finish-call (stands at first second .frame) s before) r after
 finished-standing at first second s before e {r} {after} q =
-    subst (λ (b : Bool). FrameResult (frame (at .width) (at .height) (at .layout) (cond b second first)) s before r after) (sym e) q
+    subst (λ (b : Bool). Result (finish-call (frame (at .width) (at .height) (at .layout) (cond b second first)) s before) r after) (sym e) q
 
 -- ---- all of it
 first-is : (at : Standing) (first second : List ℕ) → first-holds (stands at first second) ≡ first
@@ -130,7 +129,7 @@ second-is at first second = go (at .swapped)
     go false = refl
 
 pub run-alike : (turns : List ℕ) (f : Frame) (other : List ℕ) (s : Settings) (before₁ before₂ : Lent) {r₁ r₂ : Answer} {n₁ n₂ : ℕ} {at : Standing} {first second : List ℕ} {after₁ after₂ : Lent}
-    → FrameResult f s before₁ r₁ after₁ → stands at first second ≡ turned-all turns (between f other false) → FrameResult (stands at first second .frame) s before₂ r₂ after₂
+    → Result (finish-call f s before₁) r₁ after₁ → stands at first second ≡ turned-all turns (between f other false) → Result (finish-call (stands at first second .frame) s before₂) r₂ after₂
     → n₁ ≡ number-of-answer r₁ → n₂ ≡ number-of-answer r₂
     → FinishedAlike turns f other s before₁ before₂ (record { given = n₁; turned = n₂ }) first second after₁ after₂
 run-alike turns f other s before₁ before₂ {r₁} {r₂} {n₁} {n₂} {at} {first} {second} {after₁} {after₂} p e q e₁ e₂ = record {
@@ -139,16 +138,16 @@ run-alike turns f other s before₁ before₂ {r₁} {r₂} {n₁} {n₂} {at} {
   first-mosaic = sym (first-is at first second) ∙ ap first-holds e;
   second-mosaic = sym (second-is at first second) ∙ ap second-holds e;
   alike = λ room.
-      subst (λ (ts : List ℕ). (n₁ ≡ n₂) × (n₁ ≡ 0 → after₂ .three ≡ turned-planes ts f (after₁ .three))) (taken-of turns start)
-      (finished-alike f (runs-of turns start) (history-of turns start) s before₁ before₂ room given
-      (subst (λ (g : Frame). FinishNumber g s before₂ n₂ after₂) (sym (standing-of turns start)) stood));
+      subst (λ (ts : List ℕ). Alike ts f n₁ n₂ (after₁ .three) (after₂ .three)) (taken-of turns start)
+      (demand-3-numbered f (runs-of turns start) (history-of turns start) s before₁ before₂ room given
+      (subst (λ (g : Frame). Numbered (finish-call g s before₂) n₂ after₂) (sym (standing-of turns start)) stood));
 }
   where
     start : Between
     start = between f other false
 
-    given : FinishNumber f s before₁ n₁ after₁
-    given = frame-number f s before₁ p e₁
+    given : Numbered (finish-call f s before₁) n₁ after₁
+    given = to-number (finish-call f s before₁) p e₁
 
-    stood : FinishNumber (turned-all turns start .frame) s before₂ n₂ after₂
-    stood = subst (λ (b : Between). FinishNumber (b .frame) s before₂ n₂ after₂) e (frame-number (stands at first second .frame) s before₂ q e₂)
+    stood : Numbered (finish-call (turned-all turns start .frame) s before₂) n₂ after₂
+    stood = subst (λ (b : Between). Numbered (finish-call (b .frame) s before₂) n₂ after₂) e (to-number (finish-call (stands at first second .frame) s before₂) q e₂)

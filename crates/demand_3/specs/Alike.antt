@@ -3,11 +3,12 @@ use mathlib.Core.Path.{_≡_}
 use mathlib.Core.Bool.{false, cond, xor}
 use mathlib.Core.List.{List}
 use Prim.Native.Nat.{ℕ}
+use Rattle.planes.specs.Planes.{Frame, frame}
+use Rattle.questions.specs.Calls.{Numbered}
 use Rattle.questions.specs.declared.Settings.{Settings}
-use Rattle.turns.specs.Frames.{Frame, frame}
-use Rattle.work_buffer.specs.Lent.{Lent, rooms-of}
-use Rattle.finishing.specs.Calls.{FinishNumber}
-use Rattle.finishing.specs.Turnings.{turned-planes}
+use Rattle.questions.specs.Lent.{Lent, rooms-of}
+use Rattle.finishing.specs.Calls.{finish-call}
+use Rattle.finishing.specs.Turnings.{Alike}
 use Rattle.demand_3.specs.Between.{Between, between, first-holds, second-holds, turned-once, turned-all, turns-taken}
 use Rattle.demand_3.specs.declared.Numbers.{Numbers}
 use Rattle.demand_3.specs.declared.Standing.{Standing}
@@ -25,10 +26,10 @@ Moved turn at from to r to-after =
 -- Frame f is finished as given; a list of turning calls takes it back and forth between two mosaics, the second of which held `other`;
 -- what stands then is finished, with the same settings. r has both numbers.
 pub record FinishedAlike (turns : List ℕ) (f : Frame) (other : List ℕ) (s : Settings) (before₁ before₂ : Lent) (r : Numbers) (first second : List ℕ) (after₁ after₂ : Lent) : Type 0 where
-  pub given : FinishNumber f s before₁ (r .given) after₁
-  pub turned : FinishNumber (turned-all turns (between f other false) .frame) s before₂ (r .turned) after₂
+  pub given : Numbered (finish-call f s before₁) (r .given) after₁
+  pub turned : Numbered (finish-call (turned-all turns (between f other false) .frame) s before₂) (r .turned) after₂
   pub first-mosaic : first ≡ first-holds (turned-all turns (between f other false))
   pub second-mosaic : second ≡ second-holds (turned-all turns (between f other false))
-  -- with the same room in their buffers both have the same number, and where they are accepted the planes are turned by the accepted turns
-  pub alike : rooms-of before₁ ≡ rooms-of before₂
-      → (r .given ≡ r .turned) × (r .given ≡ 0 → after₂ .three ≡ turned-planes (turns-taken turns (between f other false)) f (after₁ .three))
+  -- with the same room in their buffers both are accepted, and the planes are turned by the accepted turns; or both are refused with the same
+  -- number
+  pub alike : rooms-of before₁ ≡ rooms-of before₂ → Alike (turns-taken turns (between f other false)) f (r .given) (r .turned) (after₁ .three) (after₂ .three)

@@ -2,11 +2,11 @@
 use mathlib.Core.Bool.{Bool, cond, not}
 use mathlib.Core.List.{List, [], _∷_}
 use Prim.Native.Nat.{ℕ}
-use lib.ListN.{length}
-use Rattle.questions.specs.Questions.{Question}
-use Rattle.questions.specs.Answers.{if-accepted}
-use Rattle.turns.specs.Frames.{Frame, turn-frame}
-use Rattle.turns.specs.Turning.{frame-questions}
+use Rattle.planes.specs.Planes.{Frame}
+use Rattle.questions.specs.Calls.{Call, if-accepted}
+use Rattle.turns.specs.Frames.{turn-frame}
+use Rattle.turns.specs.Turning.{turn-call}
+use Rattle.turns.specs.declared.TurnedFrame.{TurnedFrame}
 
 -- the frame that stands in one of them, what the other one holds, and whether it stands in the second
 pub record Between : Type 0 where
@@ -24,13 +24,13 @@ first-holds b = cond (b .swapped) (b .other) (b .frame .samples)
 abbrev pub second-holds : Between → List ℕ
 second-holds b = cond (b .swapped) (b .frame .samples) (b .other)
 
--- the questions of a turning call from the one into the other
-abbrev pub turn-questions : ℕ → Between → List Question
-turn-questions t b = frame-questions t (b .frame) (length (b .other))
+-- a turning call from the one into the other
+abbrev pub call-between : ℕ → Between → Call TurnedFrame (List ℕ)
+call-between t b = turn-call t (b .frame) (b .other)
 
 -- and what it leaves
 unfoldable pub turned-once : ℕ → Between → Between
-turned-once t b = if-accepted (turn-questions t b) (between (turn-frame t (b .frame)) (b .frame .samples) (not (b .swapped))) b
+turned-once t b = if-accepted (call-between t b .questions) (between (turn-frame t (b .frame)) (b .frame .samples) (not (b .swapped))) b
 
 -- a list of them
 unfoldable pub turned-all : List ℕ → Between → Between
@@ -40,4 +40,4 @@ turned-all (t ∷ ts) b = turned-all ts (turned-once t b)
 -- those that are accepted, in order
 unfoldable pub turns-taken : List ℕ → Between → List ℕ
 turns-taken [] b = []
-turns-taken (t ∷ ts) b = if-accepted (turn-questions t b) (t ∷ turns-taken ts (turned-once t b)) (turns-taken ts (turned-once t b))
+turns-taken (t ∷ ts) b = if-accepted (call-between t b .questions) (t ∷ turns-taken ts (turned-once t b)) (turns-taken ts (turned-once t b))

@@ -4,9 +4,10 @@ use questions::Settings;
 use turns::Turn;
 use turns::TurnedFrame;
 ghost use mathlib.Core.Path.{_≡_};
-ghost use Rattle.turns.specs.Frames.{frame};
-ghost use Rattle.work_buffer.specs.Lent.{lent};
-ghost use Rattle.finishing.specs.Calls.{FrameResult};
+ghost use Rattle.planes.specs.Planes.{frame};
+ghost use Rattle.questions.specs.Calls.{Result};
+ghost use Rattle.questions.specs.Lent.{lent};
+ghost use Rattle.finishing.specs.Calls.{finish-call};
 ghost use Rattle.demand_3.specs.Between.{turned-once, turned-all};
 ghost use Rattle.demand_3.specs.Alike.{stands, Moved, FinishedAlike};
 
@@ -85,7 +86,7 @@ fn finish_standing(
     blue: &mut [u16],
     work: &mut [i32],
 ) -> Answer
-    ensures { λ r. ⌜ FrameResult (stands at (now (first .entry)) (now (second .entry)) .frame) settings (lent (now (red .entry)) (now (green .entry)) (now (blue .entry)) (now (work .entry))) r (lent (now (red .exit)) (now (green .exit)) (now (blue .exit)) (now (work .exit))) ⌝ }
+    ensures { λ r. ⌜ Result (finish-call (stands at (now (first .entry)) (now (second .entry)) .frame) settings (lent (now (red .entry)) (now (green .entry)) (now (blue .entry)) (now (work .entry)))) r (lent (now (red .exit)) (now (green .exit)) (now (blue .exit)) (now (work .exit))) ⌝ }
 {
     let width = at.width;
     let height = at.height;

@@ -9,7 +9,7 @@ use lib.Dec.{T, leb}
 use borrow.Author.Tests.{le-leb, lt-leb, leb-true, leb-false}
 use Rattle.questions.specs.Settings.{settings, ceiling, ceiling-of}
 use Rattle.questions.specs.Questions.{Question, question, ask, size-questions, shape-questions, settings-questions, frame-questions}
-use Rattle.questions.specs.Answers.{Numbered, if-accepted}
+use Rattle.questions.specs.Calls.{if-accepted, Call, Numbered}
 use Rattle.questions.specs.declared.Settings.{Settings}
 use Rattle.questions.proofs.Asking.{AllYes, numbered, all-yes, all-yes-split}
 
@@ -26,18 +26,18 @@ cut-asked most k n {b} e h = go (leb n k) refl
 pub cut-kept : (most k n : ℕ) {b : ℕ} → b ≡ min n most → k < most → leb n k ≡ true → b ≡ n
 cut-kept most k n e h p = let l = leb-true n k p in omega arith
 
--- ---- what the engine left, by questions ps on cut numbers, is what is left by the same questions qs on C's numbers
-module _ {A : Type 0} {ps qs : List Question} (new other old : A) (p : ps ≡ qs) (same : ask qs ≡ 0 → new ≡ other) where
-  pub left-as : if-accepted ps new old ≡ if-accepted qs other old
+-- ---- what holds of call c, on cut numbers, holds of call d, the same on C's numbers
+module _ {A D B : Type 0} (c : Call A B) (d : Call D B) (p : c .questions ≡ d .questions) (old : c .old ≡ d .old) (new : ask (d .questions) ≡ 0 → c .new ≡ d .new) where
+  pub carried : {n : ℕ} {after : B} → Numbered c n after → Numbered d n after
   unfolding if-accepted
-  left-as = ap (λ (q : List Question). if-accepted q new old) p ∙ go (ask qs) same
+  carried e = record {
+    number = e .number ∙ ap ask p;
+    leaves = e .leaves ∙ (λ i. if-accepted (p i) (c .new) (old i)) ∙ go (ask (d .questions)) new;
+  }
     where
-      go : (n : ℕ) → (n ≡ 0 → new ≡ other) → _≡_ {A = A} (elim n [ zero ↦ new | suc k ↦ old ]) (elim n [ zero ↦ other | suc k ↦ old ])
+      go : (n : ℕ) → (n ≡ 0 → c .new ≡ d .new) → _≡_ {A = B} (elim n [ zero ↦ c .new | suc k ↦ d .old ]) (elim n [ zero ↦ d .new | suc k ↦ d .old ])
       go zero same = same refl
       go (suc n) same = refl
-
-  pub numbered-as : (after : A) (r : ℕ) → Numbered ps (after ≡ if-accepted ps new old) r → Numbered qs (after ≡ if-accepted qs other old) r
-  numbered-as after r e = record { number = e .number ∙ ap ask p; leaves = e .leaves ∙ left-as }
 
 -- ---- a frame's layout l
 module _ (w h layout : ℕ) {l : ℕ} (pl : l ≡ min layout 255) where
@@ -47,16 +47,15 @@ module _ (w h layout : ℕ) {l : ℕ} (pl : l ≡ min layout 255) where
   layout-kept : AllYes (shape-questions w h layout) → l ≡ layout
   layout-kept y = cut-kept 255 3 layout pl (omega arith) (y .1 .1 .0)
 
-  -- a call that asks 1, 2, 3 and then `rest`, whose new contents are told by the layout
-  module _ {A : Type 0} (rest : List Question) (t : T (numbered rest)) (new : ℕ → A) (old : A) where
-    kept-shape : ask (shape-questions w h layout ++ rest) ≡ 0 → new l ≡ new layout
-    kept-shape z = ap new (layout-kept (all-yes-split (shape-questions w h layout) rest (all-yes (shape-questions w h layout ++ rest) t 0 (sym z) refl) .0))
-
-    pub shape-left : if-accepted (shape-questions w h l ++ rest) (new l) old ≡ if-accepted (shape-questions w h layout ++ rest) (new layout) old
-    shape-left = left-as (new l) (new layout) old (ap (λ (qs : List Question). qs ++ rest) layout-asked) kept-shape
-
-  pub shape-number : (rest : List Question) {n : ℕ} → n ≡ ask (shape-questions w h l ++ rest) → n ≡ ask (shape-questions w h layout ++ rest)
-  shape-number rest e = e ∙ ap (λ (qs : List Question). ask (qs ++ rest)) layout-asked
+  -- a call, by the layout, that asks 1, 2, 3 and then `rest`
+  module _ {A B : Type 0} (call : ℕ → Call A B) (rest : List Question) (t : T (numbered rest)) (asks : (x : ℕ) → call x .questions ≡ shape-questions w h x ++ rest) (old : call l .old ≡ call layout .old) where
+    pub shape-carried : {n : ℕ} {after : B} → Numbered (call l) n after → Numbered (call layout) n after
+    shape-carried = carried (call l) (call layout) (asks l ∙ ap (λ (qs : List Question). qs ++ rest) layout-asked ∙ sym (asks layout)) old kept
+      where
+        kept : ask (call layout .questions) ≡ 0 → call l .new ≡ call layout .new
+        kept z =
+            ap (λ (x : ℕ). call x .new)
+            (layout-kept (all-yes-split (shape-questions w h layout) rest (all-yes (shape-questions w h layout ++ rest) t 0 (sym z ∙ ap ask (asks layout)) refl) .0))
 
   -- ---- and its settings s
   module _ (rounds threshold : ℕ) {s : Settings} (ps : s ≡ settings (min rounds 255) (min threshold 65535)) where
@@ -76,22 +75,14 @@ module _ (w h layout : ℕ) {l : ℕ} (pl : l ≡ min layout 255) where
     unfolding ceiling-of
     settings-kept y = ps ∙ (λ i. settings (cut-kept 255 64 rounds refl (omega arith) (y .0) i) (cut-kept 65535 ceiling threshold refl (omega arith) (y .1 .0) i))
 
-    -- a call that asks 1 to 5 and then `rest`, by the ceiling, whose new contents are told by layout and settings
-    module _ {A : Type 0} (rest : ℕ → List Question) (t : T (numbered (rest (ceiling-of given)))) (new : ℕ → Settings → A) (old : A) where
-      abbrev cut : List Question
-      cut = frame-questions w h l s ++ rest (ceiling-of s)
-
-      abbrev asked : List Question
-      asked = frame-questions w h layout given ++ rest (ceiling-of given)
-
-      frame-asked : cut ≡ asked
-      frame-asked = λ i. (layout-asked i ++ settings-asked i) ++ rest (ceiling-same i)
-
-      kept-frame : ask asked ≡ 0 → new l s ≡ new layout given
-      kept-frame z =
-          let y = all-yes-split (frame-questions w h layout given) (rest (ceiling-of given)) (all-yes asked t 0 (sym z) refl) .0 in
-          let p = all-yes-split (shape-questions w h layout) (settings-questions given) y in
-          λ i. new (layout-kept (p .0) i) (settings-kept (p .1) i)
-
-      pub frame-numbered : (after : A) (n : ℕ) → Numbered cut (after ≡ if-accepted cut (new l s) old) n → Numbered asked (after ≡ if-accepted asked (new layout given) old) n
-      frame-numbered = numbered-as (new l s) (new layout given) old frame-asked kept-frame
+    -- a call, by layout and settings, that asks 1 to 5 and then `rest`, by the ceiling
+    module _ {A B : Type 0} (call : ℕ → Settings → Call A B) (rest : ℕ → List Question) (t : T (numbered (rest (ceiling-of given))))
+        (asks : (x : ℕ) (g : Settings) → call x g .questions ≡ frame-questions w h x g ++ rest (ceiling-of g)) (old : call l s .old ≡ call layout given .old) where
+      pub frame-carried : {n : ℕ} {after : B} → Numbered (call l s) n after → Numbered (call layout given) n after
+      frame-carried = carried (call l s) (call layout given) (asks l s ∙ (λ i. (layout-asked i ++ settings-asked i) ++ rest (ceiling-same i)) ∙ sym (asks layout given)) old kept
+        where
+          kept : ask (call layout given .questions) ≡ 0 → call l s .new ≡ call layout given .new
+          kept z =
+              let y = all-yes-split (frame-questions w h layout given) (rest (ceiling-of given)) (all-yes (frame-questions w h layout given ++ rest (ceiling-of given)) t 0 (sym z ∙ ap ask (asks layout given)) refl) .0 in
+              let p = all-yes-split (shape-questions w h layout) (settings-questions given) y in
+              λ i. call (layout-kept (p .0) i) (settings-kept (p .1) i) .new

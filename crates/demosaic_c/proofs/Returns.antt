@@ -2,16 +2,17 @@
 use mathlib.Core.Path.{_≡_, refl, sym, ap, _∙_}
 use mathlib.Core.Bool.{Bool, true, false, cond}
 use mathlib.Core.List.{List, [], _∷_, _++_}
-use Prim.Native.Nat.{ℕ, _*_, min}
+use Prim.Native.Nat.{ℕ, zero, suc, _*_, min}
 use native.Mathlib.Omega.{arith}
 use lib.Dec.{leb, eqb}
 use lib.ListN.{length}
+use Rattle.planes.specs.Planes.{Frame, frame}
 use Rattle.questions.specs.Questions.{Question, question, ask, size-questions}
-use Rattle.questions.specs.Answers.{Answered, Numbered}
+use Rattle.questions.specs.Calls.{Answered, Call, Result, Numbered, if-accepted}
 use Rattle.questions.proofs.Asking.{all-yes}
-use Rattle.questions.proofs.Answering.{left-by}
+use Rattle.questions.proofs.Answering.{left-no, left-yes, new-left, old-left}
 use Rattle.packet.specs.Packet.{distance, fields-of, repeats}
-use Rattle.packet.specs.Calls.{read-questions, write-questions, repeat-questions, number-of-read, number-of-written, number-of-repeat, ReadResult, WriteLeaves, WriteResult, RepeatResult}
+use Rattle.packet.specs.Calls.{read-questions, write-questions, repeat-questions, number-of-read, number-of-written, number-of-repeat, ReadResult, write-call, RepeatResult}
 use Rattle.packet.specs.declared.Fields.{Fields}
 use Rattle.packet.specs.declared.ReadPacket.{ReadPacket}
 use Rattle.packet.specs.declared.ReadPacket.the-variants as read
@@ -20,8 +21,8 @@ use Rattle.packet.specs.declared.WrittenPacket.the-variants as written
 use Rattle.packet.specs.declared.Repeat.{Repeat}
 use Rattle.packet.specs.declared.Repeat.the-variants as repeat
 use Rattle.turns.specs.Pictures.{Picture, then-another}
-use Rattle.turns.specs.Frames.{Frame, frame, turn-frame}
-use Rattle.turns.specs.Turning.{then-questions, shape-turn-questions, frame-questions, shape-turned, number-of-composed, number-of-extent, number-of-layout, number-of-frame, TurnLeaves, TurnResult}
+use Rattle.turns.specs.Frames.{turn-frame}
+use Rattle.turns.specs.Turning.{then-questions, shape-turn-questions, turn-questions, shape-turned, number-of-composed, number-of-extent, number-of-layout, number-of-frame, turn-call}
 use Rattle.turns.specs.declared.Composed.{Composed}
 use Rattle.turns.specs.declared.Composed.the-variants as composed
 use Rattle.turns.specs.declared.Extent.{Extent}
@@ -30,17 +31,32 @@ use Rattle.turns.specs.declared.TurnedLayout.{TurnedLayout}
 use Rattle.turns.specs.declared.TurnedLayout.the-variants as turned-layout
 use Rattle.turns.specs.declared.TurnedFrame.{TurnedFrame}
 use Rattle.turns.specs.declared.TurnedFrame.the-variants as turned-frame
-use Rattle.demosaic_c.proofs.Cuts.{cut-asked, cut-kept, left-as, numbered-as}
-use Rattle.demosaic_c.specs.Pointers.{shape, places-of, FieldsLeaves, LengthLeaves, RepeatLeaves, SingleLeaves, ShapeLeaves, TurnedShapeLeaves}
+use Rattle.demosaic_c.specs.Pointers.{number-call, fields-call, length-call, repeat-call, single-call, shape, shape-of, shape-call, turned-call, places-of}
+use Rattle.demosaic_c.proofs.Cuts.{cut-asked, cut-kept, carried}
+
+-- ---- What is put into numbers is told by the answer: `value` of the one promised is the new, of a refused one the old. So it is of the answer a
+-- that a call was seen to give.
+module _ {A B : Type 0} (number-of : A → ℕ) (qs : List Question) (promised r : A) (e : Answered number-of qs promised r) where
+  told : (value : A → B) (new old : B) → (ask qs ≡ 0 → value promised ≡ new) → ((number-of r ≡ 0 → ⊥) → value r ≡ old) → (a : A) → r ≡ a
+      → Numbered (number-call qs new old) (number-of a) (value a)
+  told value new old y n a p = record {
+    number = ap number-of (sym p) ∙ e .number;
+    leaves = ap value (sym p) ∙ go (ask qs) refl;
+  }
+    where
+      go : (k : ℕ) → ask qs ≡ k → value r ≡ if-accepted qs new old
+      go zero z = ap value (e .accepted z) ∙ y z ∙ left-yes qs new old 0 (sym z) refl
+      go (suc k) z =
+          let other : number-of r ≡ 0 → ⊥ = λ x. let w : suc k ≡ 0 = sym z ∙ sym (e .number) ∙ x in omega arith in
+          n other ∙ left-no qs new old (number-of r) (e .number) other
 
 -- ---- packets
 abbrev pub fields-or : Fields → ReadPacket → Fields
 fields-or before (read.Sound f) = f
 fields-or before (read.Refused n) = before
 
-pub fields-returned : (s : List ℕ) (before : Fields) {r : ReadPacket} → ReadResult s r → (a : ReadPacket) → r ≡ a → Numbered (read-questions s) (FieldsLeaves s before (fields-or before a)) (number-of-read a)
-fields-returned s before e =
-    left-by number-of-read (read-questions s) (read.Sound (fields-of s)) _ e (fields-or before) (fields-of s) before (λ z. refl) kept
+pub fields-returned : (s : List ℕ) (before : Fields) {r : ReadPacket} → ReadResult s r → (a : ReadPacket) → r ≡ a → Numbered (fields-call s before) (number-of-read a) (fields-or before a)
+fields-returned s before {r} e = told number-of-read (read-questions s) (read.Sound (fields-of s)) r e (fields-or before) (fields-of s) before (λ z. refl) (kept r)
   where
     kept : (a : ReadPacket) → (number-of-read a ≡ 0 → ⊥) → fields-or before a ≡ before
     kept (read.Sound f) h = absurd (h refl)
@@ -50,27 +66,28 @@ abbrev pub length-or : ℕ → WrittenPacket → ℕ
 length-or before (written.Bytes n) = n
 length-or before (written.Refused n) = before
 
-module _ (f : Fields) (samples out : List ℕ) (before : ℕ) {r : WrittenPacket} {after : List ℕ} (e : WriteResult f samples out r after) where
-  counted : (a : WrittenPacket) → r ≡ a → Numbered (write-questions f samples (length out)) (LengthLeaves f samples (length out) before (length-or before a)) (number-of-written a)
-  counted =
-      left-by number-of-written (write-questions f samples (length out)) (written.Bytes (distance f)) _ (e .answer) (length-or before) (distance f) before (λ z. refl) kept
-    where
-      kept : (a : WrittenPacket) → (number-of-written a ≡ 0 → ⊥) → length-or before a ≡ before
-      kept (written.Bytes n) h = absurd (h refl)
-      kept (written.Refused n) h = refl
+pub length-returned : (f : Fields) (samples out : List ℕ) (before : ℕ) {r : WrittenPacket} {after : List ℕ} → Result (write-call f samples out) r after → (a : WrittenPacket) → r ≡ a
+    → Numbered (length-call f samples out before) (number-of-written a) (after, length-or before a)
+length-returned f samples out before {r} {after} e =
+    told number-of-written (c .questions) (c .answer) r (e .answer) (λ a. (after, length-or before a)) (c .new, distance f) (out, before)
+    (λ z. λ i. (new-left c (e .leaves) z i, distance f))
+    (λ h. λ i. (old-left c (e .leaves) (λ z. h (e .answer .number ∙ z)) i, kept r h i))
+  where
+    c : Call WrittenPacket (List ℕ)
+    c = write-call f samples out
 
-  pub packet-returned : (a : WrittenPacket) → r ≡ a
-      → Numbered (write-questions f samples (length out)) (WriteLeaves f samples out after × LengthLeaves f samples (length out) before (length-or before a)) (number-of-written a)
-  packet-returned a p = record { number = counted a p .number; leaves = (e .buffer, counted a p .leaves) }
+    kept : (a : WrittenPacket) → (number-of-written a ≡ 0 → ⊥) → length-or before a ≡ before
+    kept (written.Bytes n) h = absurd (h refl)
+    kept (written.Refused n) h = refl
 
 abbrev pub same-or : ℕ → Repeat → ℕ
 same-or before repeat.Yes = 1
 same-or before repeat.No = 0
 same-or before (repeat.Refused n) = before
 
-pub repeat-returned : (s t : List ℕ) (before : ℕ) {r : Repeat} → RepeatResult s t r → (a : Repeat) → r ≡ a → Numbered (repeat-questions s t) (RepeatLeaves s t before (same-or before a)) (number-of-repeat a)
-repeat-returned s t before e =
-    left-by number-of-repeat (repeat-questions s t) (cond (repeats s t) repeat.Yes repeat.No) _ e (same-or before) (cond (repeats s t) 1 0) before (λ z. either (repeats s t)) kept
+pub repeat-returned : (s t : List ℕ) (before : ℕ) {r : Repeat} → RepeatResult s t r → (a : Repeat) → r ≡ a → Numbered (repeat-call s t before) (number-of-repeat a) (same-or before a)
+repeat-returned s t before {r} e =
+    told number-of-repeat (repeat-questions s t) (cond (repeats s t) repeat.Yes repeat.No) r e (same-or before) (cond (repeats s t) 1 0) before (λ z. either (repeats s t)) (kept r)
   where
     either : (x : Bool) → same-or before (cond x repeat.Yes repeat.No) ≡ cond x 1 0
     either true = refl
@@ -87,19 +104,17 @@ single-or before (composed.Single t) = t .number
 single-or before (composed.Refused n) = before
 
 module _ (turn next : ℕ) {t n : ℕ} (pt : t ≡ min turn 255) (pn : n ≡ min next 255) where
-  then-asked : then-questions t n ≡ then-questions turn next
-  then-asked = λ i. question 16 (cut-asked 255 7 turn pt (omega arith) i) ∷ question 16 (cut-asked 255 7 next pn (omega arith) i) ∷ []
-
   then-kept : ask (then-questions turn next) ≡ 0 → then-another t n ≡ then-another turn next
   then-kept z =
       let y = all-yes (then-questions turn next) tt 0 (sym z) refl in
       λ i. then-another (cut-kept 255 7 turn pt (omega arith) (y .0) i) (cut-kept 255 7 next pn (omega arith) (y .1 .0) i)
 
   pub single-returned : (before : ℕ) {r : Composed} → Answered number-of-composed (then-questions t n) (composed.Single (record { number = then-another t n })) r → (a : Composed) → r ≡ a
-      → Numbered (then-questions turn next) (SingleLeaves turn next before (single-or before a)) (number-of-composed a)
-  single-returned before e a p =
-      numbered-as _ _ before then-asked then-kept _ _
-      (left-by number-of-composed (then-questions t n) _ _ e (single-or before) (then-another t n) before (λ z. refl) kept a p)
+      → Numbered (single-call turn next before) (number-of-composed a) (single-or before a)
+  single-returned before {r} e a p =
+      carried (single-call t n before) (single-call turn next before)
+      (λ i. question 16 (cut-asked 255 7 turn pt (omega arith) i) ∷ question 16 (cut-asked 255 7 next pn (omega arith) i) ∷ []) refl then-kept
+      (told number-of-composed (then-questions t n) _ r e (single-or before) (then-another t n) before (λ z. refl) (kept r) a p)
     where
       kept : (a : Composed) → (number-of-composed a ≡ 0 → ⊥) → single-or before a ≡ before
       kept (composed.Single s) h = absurd (h refl)
@@ -136,46 +151,38 @@ module _ (turn width height layout : ℕ) {t l : ℕ} (pt : t ≡ min turn 255) 
       → Answered number-of-extent (shape-turn-questions t width height l) (extent.Places (turned-shape .height)) rh
       → Answered number-of-layout (shape-turn-questions t width height l) (turned-layout.Layout (turned-shape .layout)) rl
       → (w h : ℕ) → w ≡ places-of rw → h ≡ places-of rh → (a : TurnedLayout) → rl ≡ a
-      → Numbered (shape-turn-questions turn width height layout) (ShapeLeaves turn (shape width height layout) before (shape-or before w h a)) (number-of-layout a)
-  shape-returned before ew eh el w h pw ph a p =
-      numbered-as _ _ before shape-asked shape-kept _ _
-      (left-by number-of-layout (shape-turn-questions t width height l) _ _ el (shape-or before w h) turned-shape before
-      (λ z. λ i. shape ((pw ∙ ap places-of (ew .accepted z)) i) ((ph ∙ ap places-of (eh .accepted z)) i) (turned-shape .layout)) kept a p)
+      → Numbered (shape-call turn width height layout before) (number-of-layout a) (shape-or before w h a)
+  shape-returned before {rl = rl} ew eh el w h pw ph a p =
+      carried (shape-call t width height l before) (shape-call turn width height layout before) shape-asked refl shape-kept
+      (told number-of-layout (shape-turn-questions t width height l) _ rl el (shape-or before w h) turned-shape before
+      (λ z. λ i. shape ((pw ∙ ap places-of (ew .accepted z)) i) ((ph ∙ ap places-of (eh .accepted z)) i) (turned-shape .layout)) (kept rl) a p)
     where
       kept : (a : TurnedLayout) → (number-of-layout a ≡ 0 → ⊥) → shape-or before w h a ≡ before
       kept (turned-layout.Layout m) z = absurd (z refl)
       kept (turned-layout.Refused n) z = refl
 
   module _ (samples out : List ℕ) where
+    abbrev cut : Frame
+    cut = frame width height l samples
+
     abbrev given : Frame
     given = frame width height layout samples
 
-    abbrev asked : List Question
-    asked = frame-questions turn given (length out)
-
-    frame-asked : frame-questions t (frame width height l samples) (length out) ≡ asked
-    frame-asked = ap (λ (qs : List Question). qs ++ (question 6 (eqb (length samples) (width * height)) ∷ question 7 (eqb (length out) (width * height)) ∷ [])) shape-asked
-
-    frame-kept : ask asked ≡ 0 → turn-frame t (frame width height l samples) ≡ turn-frame turn given
+    frame-kept : ask (turn-questions turn given (length out)) ≡ 0 → turn-frame t cut ≡ turn-frame turn given
     frame-kept z =
-        let y = all-yes asked tt 0 (sym z) refl in
+        let y = all-yes (turn-questions turn given (length out)) tt 0 (sym z) refl in
         λ i. turn-frame (same-turn (y .0) i) (frame width height (same-layout (y .1 .1 .1 .0) i) samples)
 
-    pub frame-returned : (before : Picture Unit) {r : TurnedFrame} {after : List ℕ} → TurnResult t (frame width height l samples) out r after → (a : TurnedFrame) → r ≡ a
-        → Numbered asked (TurnLeaves turn given out after × TurnedShapeLeaves turn given (length out) before (frame-shape-or before a)) (number-of-frame a)
-    frame-returned before e a p = record {
-      number = seen .number;
-      leaves = (e .buffer ∙ left-as _ _ out frame-asked (λ z. ap (λ (f : Frame). f .samples) (frame-kept z)), seen .leaves);
-    }
+    pub frame-returned : (before : Picture Unit) {r : TurnedFrame} {after : List ℕ} → Result (turn-call t cut out) r after → (a : TurnedFrame) → r ≡ a
+        → Numbered (turned-call turn given out before) (number-of-frame a) (after, frame-shape-or before a)
+    frame-returned before {r} {after} e a p =
+        carried (turned-call t cut out before) (turned-call turn given out before)
+        (ap (λ (qs : List Question). qs ++ (question 6 (eqb (length samples) (width * height)) ∷ question 7 (eqb (length out) (width * height)) ∷ [])) shape-asked) refl
+        (λ z. λ i. (frame-kept z i .samples, shape-of (frame-kept z i)))
+        (told number-of-frame _ (turn-call t cut out .answer) r (e .answer) (λ x. (after, frame-shape-or before x)) (turn-call t cut out .new, shape-of (turn-frame t cut)) (out, before)
+        (λ z. λ i. (new-left (turn-call t cut out) (e .leaves) z i, shape-of (turn-frame t cut)))
+        (λ h. λ i. (old-left (turn-call t cut out) (e .leaves) (λ z. h (e .answer .number ∙ z)) i, kept r h i)) a p)
       where
-        shape-of : Frame → Picture Unit
-        shape-of f = shape (f .width) (f .height) (f .layout)
-
         kept : (a : TurnedFrame) → (number-of-frame a ≡ 0 → ⊥) → frame-shape-or before a ≡ before
         kept (turned-frame.Accepted w h k) z = absurd (z refl)
         kept (turned-frame.Refused n) z = refl
-
-        seen : Numbered asked (TurnedShapeLeaves turn given (length out) before (frame-shape-or before a)) (number-of-frame a)
-        seen =
-            numbered-as _ _ before frame-asked (λ z. ap shape-of (frame-kept z)) _ _
-            (left-by number-of-frame _ _ _ (e .answer) (frame-shape-or before) (shape-of (turn-frame t (frame width height l samples))) before (λ z. refl) kept a p)

@@ -11,23 +11,20 @@ use turns::TurnedFrame;
 use turns::TurnedLayout;
 ghost use mathlib.Core.Path.{_≡_};
 ghost use Prim.Native.Nat.{min};
-ghost use lib.ListN.{length};
+ghost use Rattle.planes.specs.Planes.{frame, planes};
 ghost use Rattle.questions.specs.Settings.{ceiling, settings};
 ghost use Rattle.questions.specs.Questions.{ask};
-ghost use Rattle.questions.specs.Answers.{Numbered};
-ghost use Rattle.packet.specs.Calls.{read-questions, mosaic-questions, write-questions, repeat-questions, MosaicLeaves, WriteLeaves};
-ghost use Rattle.filters.specs.Bank.{brought-back};
-ghost use Rattle.turns.specs.Frames.{frame, planes};
-ghost use Rattle.turns.specs.Frames as frames;
-ghost use Rattle.turns.specs.Turning.{then-questions, shape-turn-questions, frame-questions, TurnLeaves};
-ghost use Rattle.bank.specs.Calls.{bands, lengths, split-questions, join-questions, SplitLeaves, JoinLeaves};
-ghost use Rattle.estimate.specs.Calls.{estimate-questions, EstimateLeaves};
-ghost use Rattle.update.specs.Calls.{update-questions, UpdateLeaves};
-ghost use Rattle.work_buffer.specs.Lent.{lent};
-ghost use Rattle.rounds.specs.Calls.{rounds-questions, RoundsLeaves};
+ghost use Rattle.questions.specs.Lent.{lent};
+ghost use Rattle.questions.specs.Calls.{Numbered};
 ghost use Rattle.tally.specs.Tally.{finished-after, refused-after, rounds-after};
-ghost use Rattle.finishing.specs.Calls.{FinishNumber};
-ghost use Rattle.demosaic_c.specs.Pointers.{fields, shape, places-of, FieldsLeaves, LengthLeaves, RepeatLeaves, SingleLeaves, ShapeLeaves, TurnedShapeLeaves};
+ghost use Rattle.filters.specs.Bank.{brought-back};
+ghost use Rattle.bank.specs.Calls.{bands, split-call, join-call};
+ghost use Rattle.estimate.specs.Calls.{estimate-call};
+ghost use Rattle.update.specs.Calls.{update-call};
+ghost use Rattle.rounds.specs.Calls.{rounds-call};
+ghost use Rattle.finishing.specs.Calls.{finish-call};
+ghost use Rattle.packet.specs.Calls.{read-questions, mosaic-call};
+ghost use Rattle.demosaic_c.specs.Pointers.{fields, fields-call, length-call, repeat-call, single-call, shape, shape-call, turned-call, places-of};
 
 // A packet's refusal number by the reader's questions, 0 for sound.
 #[no_mangle]
@@ -47,7 +44,7 @@ pub extern "C" fn demosaic_packet_fields(
     rounds: &mut u32,
     threshold: &mut u32,
 ) -> u32
-    ensures { λ r. ⌜ Numbered (read-questions (now (store .entry))) (FieldsLeaves (now (store .entry)) (fields (now (width .entry)) (now (height .entry)) (now (layout .entry)) (settings (now (rounds .entry)) (now (threshold .entry)))) (fields (now (width .exit)) (now (height .exit)) (now (layout .exit)) (settings (now (rounds .exit)) (now (threshold .exit))))) r ⌝ }
+    ensures { λ r. ⌜ Numbered (fields-call (now (store .entry)) (fields (now (width .entry)) (now (height .entry)) (now (layout .entry)) (settings (now (rounds .entry)) (now (threshold .entry))))) r (fields (now (width .exit)) (now (height .exit)) (now (layout .exit)) (settings (now (rounds .exit)) (now (threshold .exit)))) ⌝ }
 {
     let answer = packet::read_packet(store);
     match answer {
@@ -66,7 +63,7 @@ pub extern "C" fn demosaic_packet_fields(
 // A packet's samples; 0 or the refusal's number.
 #[no_mangle]
 pub extern "C" fn demosaic_packet_samples(store: &[u8], samples: &mut [u16]) -> u32
-    ensures { λ r. ⌜ Numbered (mosaic-questions (now (store .entry)) (length (now (samples .entry)))) (MosaicLeaves (now (store .entry)) (now (samples .entry)) (now (samples .exit))) r ⌝ }
+    ensures { λ r. ⌜ Numbered (mosaic-call (now (store .entry)) (now (samples .entry))) r (now (samples .exit)) ⌝ }
 {
     let answer = packet::read_mosaic(store, samples);
     match answer {
@@ -114,7 +111,7 @@ pub extern "C" fn demosaic_packet_write(
     out: &mut [u8],
     written: &mut usize,
 ) -> u32
-    ensures { λ r. ⌜ Numbered (write-questions (fields width height layout (settings rounds threshold)) (now (samples .entry)) (length (now (out .entry)))) (WriteLeaves (fields width height layout (settings rounds threshold)) (now (samples .entry)) (now (out .entry)) (now (out .exit)) × LengthLeaves (fields width height layout (settings rounds threshold)) (now (samples .entry)) (length (now (out .entry))) (now (written .entry)) (now (written .exit))) r ⌝ }
+    ensures { λ r. ⌜ Numbered (length-call (fields width height layout (settings rounds threshold)) (now (samples .entry)) (now (out .entry)) (now (written .entry))) r (now (out .exit), now (written .exit)) ⌝ }
 {
     let f = Fields {
         width,
@@ -135,7 +132,7 @@ pub extern "C" fn demosaic_packet_write(
 // Whether packet a repeats packet b, 1 or 0 into `same`; 0 or the refusal's number.
 #[no_mangle]
 pub extern "C" fn demosaic_packet_repeats(a: &[u8], b: &[u8], same: &mut u8) -> u32
-    ensures { λ r. ⌜ Numbered (repeat-questions (now (a .entry)) (now (b .entry))) (RepeatLeaves (now (a .entry)) (now (b .entry)) (now (same .entry)) (now (same .exit))) r ⌝ }
+    ensures { λ r. ⌜ Numbered (repeat-call (now (a .entry)) (now (b .entry)) (now (same .entry))) r (now (same .exit)) ⌝ }
 {
     let answer = packet::repeats_packet(a, b);
     match answer {
@@ -164,7 +161,7 @@ pub extern "C" fn demosaic_turn(
     turned_height: &mut usize,
     turned_layout: &mut u32,
 ) -> u32
-    ensures { λ r. ⌜ Numbered (frame-questions turn (frame width height layout (now (samples .entry))) (length (now (out .entry)))) (TurnLeaves turn (frame width height layout (now (samples .entry))) (now (out .entry)) (now (out .exit)) × TurnedShapeLeaves turn (frame width height layout (now (samples .entry))) (length (now (out .entry))) (shape (now («turned_width» .entry)) (now («turned_height» .entry)) (now («turned_layout» .entry))) (shape (now («turned_width» .exit)) (now («turned_height» .exit)) (now («turned_layout» .exit)))) r ⌝ }
+    ensures { λ r. ⌜ Numbered (turned-call turn (frame width height layout (now (samples .entry))) (now (out .entry)) (shape (now («turned_width» .entry)) (now («turned_height» .entry)) (now («turned_layout» .entry)))) r (now (out .exit), shape (now («turned_width» .exit)) (now («turned_height» .exit)) (now («turned_layout» .exit))) ⌝ }
 {
     let t = Turn { number: byte(turn) };
     let given = byte(layout);
@@ -205,7 +202,7 @@ pub extern "C" fn demosaic_turned_shape(
     turned_height: &mut usize,
     turned_layout: &mut u32,
 ) -> u32
-    ensures { λ r. ⌜ Numbered (shape-turn-questions turn width height layout) (ShapeLeaves turn (shape width height layout) (shape (now («turned_width» .entry)) (now («turned_height» .entry)) (now («turned_layout» .entry))) (shape (now («turned_width» .exit)) (now («turned_height» .exit)) (now («turned_layout» .exit)))) r ⌝ }
+    ensures { λ r. ⌜ Numbered (shape-call turn width height layout (shape (now («turned_width» .entry)) (now («turned_height» .entry)) (now («turned_layout» .entry)))) r (shape (now («turned_width» .exit)) (now («turned_height» .exit)) (now («turned_layout» .exit))) ⌝ }
 {
     let t = Turn { number: byte(turn) };
     let given = byte(layout);
@@ -226,7 +223,7 @@ pub extern "C" fn demosaic_turned_shape(
 // The one turn that does what two do, into `single`; 0 or the refusal's number.
 #[no_mangle]
 pub extern "C" fn demosaic_then_another(turn: u32, next: u32, single: &mut u32) -> u32
-    ensures { λ r. ⌜ Numbered (then-questions turn next) (SingleLeaves turn next (now (single .entry)) (now (single .exit))) r ⌝ }
+    ensures { λ r. ⌜ Numbered (single-call turn next (now (single .entry))) r (now (single .exit)) ⌝ }
 {
     let t = Turn { number: byte(turn) };
     let answer = t.then_another(Turn { number: byte(next) });
@@ -250,7 +247,7 @@ pub extern "C" fn demosaic_split(
     band3: &mut [i32],
     band4: &mut [i32],
 ) -> u32
-    ensures { λ r. ⌜ Numbered (split-questions width height (now (plane .entry)) (lengths (bands (now (band1 .entry)) (now (band2 .entry)) (now (band3 .entry)) (now (band4 .entry))))) (SplitLeaves width height (now (plane .entry)) (bands (now (band1 .entry)) (now (band2 .entry)) (now (band3 .entry)) (now (band4 .entry))) (bands (now (band1 .exit)) (now (band2 .exit)) (now (band3 .exit)) (now (band4 .exit)))) r ⌝ }
+    ensures { λ r. ⌜ Numbered (split-call width height (now (plane .entry)) (bands (now (band1 .entry)) (now (band2 .entry)) (now (band3 .entry)) (now (band4 .entry)))) r (bands (now (band1 .exit)) (now (band2 .exit)) (now (band3 .exit)) (now (band4 .exit))) ⌝ }
 {
     bank::split(width, height, plane, band1, band2, band3, band4).number()
 }
@@ -266,7 +263,7 @@ pub extern "C" fn demosaic_join(
     band4: &[i32],
     sums: &mut [i32],
 ) -> u32
-    ensures { λ r. ⌜ Numbered (join-questions width height (bands (now (band1 .entry)) (now (band2 .entry)) (now (band3 .entry)) (now (band4 .entry))) (length (now (sums .entry)))) (JoinLeaves width height (bands (now (band1 .entry)) (now (band2 .entry)) (now (band3 .entry)) (now (band4 .entry))) (now (sums .entry)) (now (sums .exit))) r ⌝ }
+    ensures { λ r. ⌜ Numbered (join-call width height (bands (now (band1 .entry)) (now (band2 .entry)) (now (band3 .entry)) (now (band4 .entry))) (now (sums .entry))) r (now (sums .exit)) ⌝ }
 {
     bank::join(width, height, band1, band2, band3, band4, sums).number()
 }
@@ -276,7 +273,7 @@ pub extern "C" fn demosaic_join(
 pub extern "C" fn demosaic_bring_back(sum: i32) -> u16
     ensures { λ r. ⌜ r ≡ brought-back ceiling sum ⌝ }
 {
-    filters::bring_back(sum)
+    bank::bring_back(sum)
 }
 
 // The first estimates of a mosaic, into three planes; 0 or the refusal's number.
@@ -290,7 +287,7 @@ pub extern "C" fn demosaic_estimate(
     green: &mut [u16],
     blue: &mut [u16],
 ) -> u32
-    ensures { λ r. ⌜ Numbered (estimate-questions ceiling (frame width height layout (now (mosaic .entry))) (frames.lengths (planes (now (red .entry)) (now (green .entry)) (now (blue .entry))))) (EstimateLeaves ceiling (frame width height layout (now (mosaic .entry))) (planes (now (red .entry)) (now (green .entry)) (now (blue .entry))) (planes (now (red .exit)) (now (green .exit)) (now (blue .exit)))) r ⌝ }
+    ensures { λ r. ⌜ Numbered (estimate-call ceiling (frame width height layout (now (mosaic .entry))) (planes (now (red .entry)) (now (green .entry)) (now (blue .entry)))) r (planes (now (red .exit)) (now (green .exit)) (now (blue .exit))) ⌝ }
 {
     let given = byte(layout);
     estimate::estimate(width, height, given, mosaic, red, green, blue).number()
@@ -306,7 +303,7 @@ pub extern "C" fn demosaic_update(
     green: &mut [u16],
     work: &mut [i32],
 ) -> u32
-    ensures { λ r. ⌜ Numbered (update-questions ceiling (frame width height layout (now (mosaic .entry))) (now (green .entry)) (length (now (work .entry)))) (UpdateLeaves ceiling (frame width height layout (now (mosaic .entry))) (now (green .entry)) (now (work .entry)) (now (green .exit)) (now (work .exit))) r ⌝ }
+    ensures { λ r. ⌜ Numbered (update-call ceiling (frame width height layout (now (mosaic .entry))) (now (green .entry)) (now (work .entry))) r (now (green .exit), now (work .exit)) ⌝ }
 {
     let given = byte(layout);
     update::update(width, height, given, mosaic, green, work).number()
@@ -326,7 +323,7 @@ pub extern "C" fn demosaic_rounds(
     blue: &mut [u16],
     work: &mut [i32],
 ) -> u32
-    ensures { λ r. ⌜ Numbered (rounds-questions (frame width height layout (now (mosaic .entry))) (settings rounds threshold) (lent (now (red .entry)) (now (green .entry)) (now (blue .entry)) (now (work .entry)))) (RoundsLeaves (frame width height layout (now (mosaic .entry))) (settings rounds threshold) (lent (now (red .entry)) (now (green .entry)) (now (blue .entry)) (now (work .entry))) (lent (now (red .exit)) (now (green .entry)) (now (blue .exit)) (now (work .exit)))) r ⌝ }
+    ensures { λ r. ⌜ Numbered (rounds-call (frame width height layout (now (mosaic .entry))) (settings rounds threshold) (lent (now (red .entry)) (now (green .entry)) (now (blue .entry)) (now (work .entry)))) r (lent (now (red .exit)) (now (green .entry)) (now (blue .exit)) (now (work .exit))) ⌝ }
 {
     let given = byte(layout);
     let settings = cut_settings(rounds, threshold);
@@ -357,7 +354,7 @@ pub extern "C" fn demosaic_finish(
     blue: &mut [u16],
     work: &mut [i32],
 ) -> u32
-    ensures { λ r. ⌜ FinishNumber (frame width height layout (now (mosaic .entry))) (settings rounds threshold) (lent (now (red .entry)) (now (green .entry)) (now (blue .entry)) (now (work .entry))) r (lent (now (red .exit)) (now (green .exit)) (now (blue .exit)) (now (work .exit))) ⌝ }
+    ensures { λ r. ⌜ Numbered (finish-call (frame width height layout (now (mosaic .entry))) (settings rounds threshold) (lent (now (red .entry)) (now (green .entry)) (now (blue .entry)) (now (work .entry)))) r (lent (now (red .exit)) (now (green .exit)) (now (blue .exit)) (now (work .exit))) ⌝ }
 {
     let given = byte(layout);
     let settings = cut_settings(rounds, threshold);

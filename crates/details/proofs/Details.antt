@@ -18,10 +18,11 @@ use Rattle.integers.proofs.Clamping.{clamp-low, clamp-high, clamp-mid}
 use Rattle.integers.proofs.Bounds.{fits-abs}
 use Rattle.integers.proofs.Linear.{linear, x₀, x₁, neg, number, _⊕_, _⊖_}
 use Rattle.border.specs.Border.{reflect}
+use Rattle.planes.specs.Lists.{value}
 use Rattle.filters.specs.Bank.{Taps, weighted, low-split, high-split, high-join}
 use Rattle.filters.proofs.Ranges.{gain, weighted-range}
 use Rattle.lines.specs.declared.Five.{Five}
-use Rattle.lines.specs.Lines.{value, Run, in-turn, three, padded}
+use Rattle.lines.specs.Lines.{Run, in-turn, three, padded}
 use Rattle.lines.proofs.Lines.{run-wider, read-small, three-small, three-read, three-range, padded-near, three-along, three-runs, five-runs}
 use Rattle.projection.specs.Fast.{excess, outer-part, crossed-along}
 use Rattle.projection.proofs.Parts.{excess-bound}

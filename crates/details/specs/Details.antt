@@ -4,9 +4,10 @@ use mathlib.Core.List.{List}
 use Prim.Native.Nat.{ℕ, _+_, _*_}
 use lib.IntN.{ℤ, pos, _+ℤ_, _-ℤ_, _*ℤ_}
 use lib.ListN.{getD}
+use Rattle.planes.specs.Lists.{value}
 use Rattle.filters.specs.Bank.{Taps, weighted, low-split, high-split, high-join, rescaled}
 use Rattle.lines.specs.declared.Five.{Five}
-use Rattle.lines.specs.Lines.{value, Run, in-turn, three}
+use Rattle.lines.specs.Lines.{Run, in-turn, three}
 use Rattle.projection.specs.Fast.{excess}
 
 -- ---- the difference of a plane and its guide

@@ -4,9 +4,9 @@ ghost use Prim.Native.Nat.{_+_, _≤_, _<_};
 ghost use lib.IntN.{natAbs, pos, _+ℤ_, _-ℤ_};
 ghost use lib.ListN.{length};
 ghost use Rattle.integers.specs.Lists.{overwrite};
+ghost use Rattle.planes.specs.Lists.{InRow, value};
 ghost use Rattle.filters.specs.Bank.{Distance, low-split, high-split, high-join, along};
-ghost use Rattle.turns.specs.Filling.{InRow};
-ghost use Rattle.lines.specs.Lines.{value, Run, in-turn, padded};
+ghost use Rattle.lines.specs.Lines.{Run, in-turn, padded};
 ghost use Rattle.projection.specs.Fast.{excess as outside, outer-part, crossed-along};
 ghost use Rattle.details.specs.Details.{difference-line, Triple, outer, outer-minus, outer-plus, from-place, crossed, Crossing, joined-apart, joined-together, settled};
 

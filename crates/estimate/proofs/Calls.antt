@@ -1,17 +1,15 @@
--- The laws of the estimate call: what an accepted call knows, and what it leaves. Assumes nothing.
-use mathlib.Core.Path.{_≡_, refl, _∙_}
+-- What an accepted estimate call knows. Assumes nothing.
+use mathlib.Core.Path.{_≡_}
 use mathlib.Core.List.{List}
 use Prim.Native.Nat.{ℕ, _*_}
 use native.Mathlib.Omega.{arith}
 use lib.ListN.{length}
 use borrow.Author.Tests.{eqb-true}
+use Rattle.planes.specs.Planes.{Frame, Planes}
 use Rattle.questions.specs.Questions.{ask}
 use Rattle.questions.proofs.Asking.{all-yes, Shape, shape-is}
-use Rattle.questions.proofs.Answering.{answer-no, answer-yes, left-no, left-yes}
-use Rattle.turns.specs.Frames.{Frame, Planes, lengths}
 use Rattle.neighbourhood.specs.Inner.{Mosaic}
-use Rattle.estimate.specs.Calls.{estimate-questions, number-of-answer, estimate-lists, EstimateResult}
-use Rattle.estimate.specs.declared.EstimateAnswer.the-variants.{Accepted, Refused}
+use Rattle.estimate.specs.Calls.{estimate-questions}
 
 mosaic-is : (w h l : ℕ) (s : List ℕ) → Shape w h l → length s ≡ w * h → Mosaic s w h
 mosaic-is w h l s z e = record {
@@ -40,17 +38,3 @@ estimable top f rooms n e z =
       green = eqb-true (rooms .green) count (q .1 .1 .0);
       blue = eqb-true (rooms .blue) count (q .1 .1 .1 .0);
     }
-
--- ---- what it leaves, refused and accepted
-module _ (top : ℕ) (f : Frame) (before : Planes (List ℕ)) (n : ℕ) (e : n ≡ ask (estimate-questions top f (lengths before))) where
-  pub estimate-no : (n ≡ 0 → ⊥) → EstimateResult top f before (Refused n) before
-  estimate-no z = record {
-    answer = answer-no number-of-answer (estimate-questions top f (lengths before)) Accepted (Refused n) e z;
-    leaves = left-no (estimate-questions top f (lengths before)) (estimate-lists top f) before n e z;
-  }
-
-  pub estimate-yes : n ≡ 0 → (after : Planes (List ℕ)) → after ≡ estimate-lists top f → EstimateResult top f before Accepted after
-  estimate-yes z after p = record {
-    answer = answer-yes number-of-answer (estimate-questions top f (lengths before)) Accepted Accepted n e z refl refl;
-    leaves = p ∙ left-yes (estimate-questions top f (lengths before)) (estimate-lists top f) before n e z;
-  }

@@ -7,7 +7,7 @@ use native.Mathlib.Omega.{arith}
 use lib.ListN.{length}
 use Rattle.integers.specs.Lists.{overwrite}
 use Rattle.integers.proofs.Lists.{overwrite-none, overwrite-append}
-use Rattle.turns.proofs.Frames.{row-room}
+use Rattle.planes.proofs.Planes.{row-room}
 
 -- a part of row r lies in the plane
 pub part-room : (w h r first count : ℕ) → r < h → first + count ≤ w → r * w + first + count ≤ w * h

@@ -3,7 +3,7 @@ use mathlib.Core.Path.{_≡_, refl, _∙_}
 use mathlib.Core.Bool.{Bool, true, false, not, Bool·beq}
 use mathlib.Core.List.{List}
 use Prim.Native.Nat.{ℕ}
-use Rattle.turns.specs.Layout.{by-parity, on-red-row, on-red-column}
+use Rattle.planes.specs.Layout.{by-parity, on-red-row, on-red-column}
 use Rattle.turns.specs.Operations.{nearby}
 use Rattle.neighbourhood.specs.Place.{neighbourhood, around, bilinear}
 use Rattle.neighbourhood.proofs.Places.{bilinear-read, green-read}

@@ -11,10 +11,10 @@ use Rattle.integers.proofs.Clamping.{clamp-sample}
 use Rattle.integers.proofs.Rounding.{rounded-bound}
 use Rattle.border.specs.Border.{reflect}
 use Rattle.border.proofs.Reflection.{reflect-lt}
+use Rattle.planes.specs.Layout.{Colour, red, green, blue, by-parity, on-red-row, on-red-column}
+use Rattle.planes.specs.Planes.{Frame, Planes, plane-of}
 use Rattle.questions.specs.Questions.{all-at-most}
-use Rattle.turns.specs.Layout.{Colour, red, green, blue, by-parity, on-red-row, on-red-column}
 use Rattle.turns.specs.Operations.{Around, nearby}
-use Rattle.turns.specs.Frames.{Frame, Planes, plane-of}
 use Rattle.turns.proofs.Frames.{plane-bound, listing-bound}
 use Rattle.neighbourhood.specs.Place.{row-of, column-of, eight-greens, hamilton-adams, green-at, of-two, of-four, bilinear}
 use Rattle.estimate.specs.Estimates.{estimate-at, estimate}

@@ -9,7 +9,7 @@ use lib.IntN.{ℤ, pos, negsuc, negℤ, natAbs, _+ℤ_, _-ℤ_, _*ℤ_, +ℤ-com
 use Rattle.integers.specs.Numbers.{rounded, clamp}
 use Rattle.integers.proofs.Linear.{linear, atom, x₀, x₁, x₂, x₃, neg, _⊕_, _⊖_, _⊛_}
 use Rattle.integers.proofs.Bounds.{abs-neg}
-use Rattle.turns.specs.Layout.{by-parity}
+use Rattle.planes.specs.Layout.{by-parity}
 use Rattle.turns.specs.Operations.{Around}
 use Rattle.turns.specs.Pictures.{Picture, turned, _≈_}
 use Rattle.turns.proofs.Commuting.{Commutes, same, nearby-commutes, apply, apply-turned}

@@ -1,8 +1,8 @@
 -- Document 01, "First estimates", on a plane: the three planes of a mosaic. Assumes nothing.
 use mathlib.Core.Bool.{Bool, not}
 use Prim.Native.Nat.{ℕ}
-use Rattle.turns.specs.Layout.{by-parity}
-use Rattle.turns.specs.Frames.{Planes}
+use Rattle.planes.specs.Layout.{by-parity}
+use Rattle.planes.specs.Planes.{Planes}
 use Rattle.turns.specs.Operations.{Operation, Around, nearby}
 use Rattle.neighbourhood.specs.Place.{green-at, bilinear}
 

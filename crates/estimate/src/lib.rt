@@ -1,35 +1,19 @@
 // Document 01's first estimates: a mosaic into three planes.
+use questions::Answer;
 ghost use mathlib.Core.Path.{_≡_};
 ghost use mathlib.Core.Bool.{true, Bool·beq};
 ghost use Prim.Native.Nat.{_+_, _*_, _≤_, _<_};
 ghost use lib.ListN.{length};
 ghost use Rattle.integers.specs.Lists.{overwrite};
+ghost use Rattle.planes.specs.Layout.{on-red-row, on-red-column};
+ghost use Rattle.planes.specs.Planes.{frame, planes, listing, plane-of};
 ghost use Rattle.questions.specs.Settings.{ceiling};
 ghost use Rattle.questions.specs.Questions.{ask};
-ghost use Rattle.turns.specs.Layout.{on-red-row, on-red-column};
-ghost use Rattle.turns.specs.Frames.{frame, planes, listing, plane-of};
+ghost use Rattle.questions.specs.Calls.{Result};
 ghost use Rattle.neighbourhood.specs.Inner.{Mosaic, inner};
 ghost use Rattle.neighbourhood.specs.Place.{neighbourhood as neighbourhood-of, around, bilinear};
 ghost use Rattle.estimate.specs.Estimates.{estimate as estimate-of};
-ghost use Rattle.estimate.specs.Calls.{estimate-questions, number-of-answer, EstimateResult};
-
-// What the estimate call answers.
-pub enum EstimateAnswer {
-    Accepted,
-    Refused(u32),
-}
-
-impl EstimateAnswer {
-    // Document 01's number of a refusal, or 0.
-    pub fn number(self) -> u32
-        ensures { λ r. ⌜ r ≡ number-of-answer self ⌝ }
-    {
-        match self {
-            EstimateAnswer::Accepted => 0,
-            EstimateAnswer::Refused(number) => number,
-        }
-    }
-}
+ghost use Rattle.estimate.specs.Calls.{estimate-questions, estimate-call};
 
 // Whether a row has red's parity.
 fn has_red_row(layout: u8, r: usize) -> bool
@@ -282,8 +266,8 @@ pub fn estimate(
     red: &mut [u16],
     green: &mut [u16],
     blue: &mut [u16],
-) -> EstimateAnswer
-    ensures { λ r. ⌜ EstimateResult ceiling (frame width height layout (now (mosaic .entry))) (planes (now (red .entry)) (now (green .entry)) (now (blue .entry))) r (planes (now (red .exit)) (now (green .exit)) (now (blue .exit))) ⌝ }
+) -> Answer
+    ensures { λ r. ⌜ Result (estimate-call ceiling (frame width height layout (now (mosaic .entry))) (planes (now (red .entry)) (now (green .entry)) (now (blue .entry)))) r (planes (now (red .exit)) (now (green .exit)) (now (blue .exit))) ⌝ }
 {
     let top = 4095;
     let refusal = estimate_refusal(
@@ -297,8 +281,8 @@ pub fn estimate(
         blue.len(),
     );
     if refusal != 0 {
-        return EstimateAnswer::Refused(refusal);
+        return Answer::Refused(refusal);
     }
     estimate_rows(top, mosaic, width, height, layout, red, green, blue);
-    EstimateAnswer::Accepted
+    Answer::Accepted
 }

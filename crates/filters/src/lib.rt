@@ -1,9 +1,8 @@
 // Inner: the filters of document 01's bank, one number at a time. LLVM inlines each, so that the loops over them are uniform.
 ghost use mathlib.Core.Path.{_≡_};
 ghost use lib.IntN.{pos};
-ghost use Rattle.integers.specs.Numbers.{whole-divided, rounded, clamp};
-ghost use Rattle.questions.specs.Settings.{ceiling};
-ghost use Rattle.filters.specs.Bank.{Small, Roundable, low-split, high-split, low-join, high-join, weighted, rescaled, brought-back};
+ghost use Rattle.integers.specs.Numbers.{whole-divided, clamp};
+ghost use Rattle.filters.specs.Bank.{Small, Roundable, low-split, high-split, low-join, high-join, weighted, rescaled};
 
 // 1 2 1
 pub fn low_split(a: i32, b: i32, c: i32) -> i32
@@ -38,7 +37,7 @@ pub fn high_join(a: i32, b: i32, c: i32, d: i32, e: i32) -> i32
 }
 
 // n whole-divided by 1,024: the fraction is dropped downward, below zero too.
-fn whole_divided(n: i32) -> i32
+pub fn whole_divided(n: i32) -> i32
     ensures { λ r. ⌜ r ≡ whole-divided n 1024 ⌝ }
 {
     if n < 0 {
@@ -48,18 +47,8 @@ fn whole_divided(n: i32) -> i32
     }
 }
 
-// (sum + 512) whole-divided by 1,024. From 0 on it is taken as one more than (sum − 512) divided, so that no sum wraps.
-pub fn rounded_quotient(sum: i32) -> i32
-    ensures { λ r. ⌜ r ≡ rounded 1024 sum ⌝ }
-{
-    if sum < 0 {
-        whole_divided(sum + 512)
-    } else {
-        whole_divided(sum - 512) + 1
-    }
-}
-
-fn clipped(z: i32, least: i32, most: i32) -> i32
+// z, held within least..most.
+pub fn clipped(z: i32, least: i32, most: i32) -> i32
     ensures { λ r. ⌜ r ≡ clamp least most z ⌝ }
 {
     if z < least {
@@ -71,24 +60,10 @@ fn clipped(z: i32, least: i32, most: i32) -> i32
     z
 }
 
-// A sum brought back to least..most: the rounded quotient, clipped.
-pub fn rescale(sum: i32, least: i32, most: i32) -> i32
-    ensures { λ r. ⌜ r ≡ rescaled 1024 least most sum ⌝ }
-{
-    clipped(rounded_quotient(sum), least, most)
-}
-
-// The same, of a sum to which 512 can be added: it does not go by the sum's sign, which a loop over vectors would do both ways.
+// A sum brought back to least..most: (sum + 512) whole-divided by 1,024, and clipped. It is for sums to which 512 can be added.
 pub fn rescale_bounded(sum: i32, least: i32, most: i32) -> i32
     requires { ⌜ Roundable sum ⌝ }
     ensures { λ r. ⌜ r ≡ rescaled 1024 least most sum ⌝ }
 {
     clipped(whole_divided(sum + 512), least, most)
-}
-
-// A sum brought back to a sample, 0..4,095.
-pub fn bring_back(sum: i32) -> u16
-    ensures { λ r. ⌜ r ≡ brought-back ceiling sum ⌝ }
-{
-    rescale(sum, 0, 4095) as u16
 }

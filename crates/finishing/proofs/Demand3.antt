@@ -2,43 +2,44 @@
 use mathlib.Core.Path.{_≡_, refl, sym, _∙_, ap}
 use mathlib.Core.Bool.{Bool, true, false, cond}
 use mathlib.Core.List.{List, [], _∷_}
-use Prim.Native.Nat.{ℕ, _*_}
+use Prim.Native.Nat.{ℕ, zero, suc, _*_}
 use native.Mathlib.Nat.{mul-comm}
+use native.Mathlib.Omega.{arith}
 use lib.Dec.{eqb, leb}
 use lib.ListN.{length}
 use borrow.Author.Tests.{eq-eqb, le-leb}
+use Rattle.planes.specs.Planes.{Frame, frame, Planes}
 use Rattle.questions.specs.Settings.{ceiling-of}
-use Rattle.questions.specs.Questions.{Question, question, ask, between}
-use Rattle.questions.specs.Answers.{number-of-answer}
+use Rattle.questions.specs.Questions.{question, ask, between}
+use Rattle.questions.specs.Calls.{Call, Result, Numbered, number-of-answer}
 use Rattle.questions.specs.declared.Settings.{Settings}
 use Rattle.questions.specs.declared.Answer.{Answer}
+use Rattle.questions.specs.Lent.{Lent, Rooms, rooms-of}
 use Rattle.questions.proofs.Asking.{between-yes}
-use Rattle.questions.proofs.Answering.{left-yes}
+use Rattle.questions.proofs.Answering.{to-number, new-left}
 use Rattle.tally.specs.declared.Tally.{Tally}
-use Rattle.turns.specs.Frames.{Frame, frame, turn-frame}
-use Rattle.turns.specs.Turning.{frame-questions, TurnResult}
+use Rattle.turns.specs.Frames.{turn-frame}
+use Rattle.turns.specs.Turning.{turn-questions, turn-call}
 use Rattle.turns.specs.declared.TurnedFrame.{TurnedFrame}
 use Rattle.turns.specs.declared.TurnedFrame.the-variants.{Accepted, Refused}
 use Rattle.turns.proofs.Frames.{turned-whole, all-at-most-turned, layout-turned}
 use Rattle.turns.proofs.Calls.{frame-width, frame-height, Fillable, fillable}
-use Rattle.work_buffer.specs.Lent.{Lent, Rooms, rooms-of}
 use Rattle.finishing.specs.Finishing.{finish-lists}
-use Rattle.finishing.specs.Calls.{finish-questions, with-finished, FrameResult, FinishNumber, finish-call, number-of-finish, FinishResult}
-use Rattle.finishing.specs.Turnings.{TurnRun, left-by, TurnHistory, standing, if-turned, accepted-turns, turned-through, turned-planes}
+use Rattle.finishing.specs.Calls.{finish-questions, finish-call, finish-given, number-of-finish, FinishResult}
+use Rattle.finishing.specs.Turnings.{TurnRun, frame-after, TurnHistory, standing, if-turned, accepted-turns, turned-through, turned-planes, Alike, both-accepted, both-refused}
 use Rattle.finishing.specs.declared.FinishAnswer.{FinishAnswer}
-use Rattle.finishing.proofs.Calls.{frame-number}
 use Rattle.finishing.proofs.Turned.{finished-turned}
 
 -- ---- an accepted turning call
-module _ (t : ℕ) (f : Frame) {before after : List ℕ} {r : TurnedFrame} (u : TurnResult t f before r after) (z : ask (frame-questions t f (length before)) ≡ 0) where
+module _ (t : ℕ) (f : Frame) {before after : List ℕ} {r : TurnedFrame} (u : Result (turn-call t f before) r after) (z : ask (turn-questions t f (length before)) ≡ 0) where
   -- leaves the turned frame
-  pub leaves-turned : left-by f r after ≡ turn-frame t f
+  pub leaves-turned : frame-after f r after ≡ turn-frame t f
   leaves-turned =
-      ap (λ (a : TurnedFrame). left-by f a after) (u .answer .accepted z)
+      ap (λ (a : TurnedFrame). frame-after f a after) (u .answer .accepted z)
       ∙ (λ i. frame (turn-frame t f .width) (turn-frame t f .height) (turn-frame t f .layout) (filled i))
     where
       filled : after ≡ turn-frame t f .samples
-      filled = u .buffer ∙ sym (left-yes (frame-questions t f (length before)) (turn-frame t f .samples) before 0 (sym z) refl)
+      filled = new-left (turn-call t f before) (u .leaves) z
 
 -- of which finishing's questions are answered as of the frame
 module _ (t : ℕ) (f : Frame) {other : ℕ} (k : Fillable (f .width) (f .height) (f .layout) (length (f .samples)) other) where
@@ -78,15 +79,15 @@ module _ (t : ℕ) (f : Frame) {other : ℕ} (k : Fillable (f .width) (f .height
 
 -- ---- a turning call, accepted or refused
 -- what stands is the frame turned by the turn, if it was accepted
-stands-turned : (t : ℕ) (f : Frame) (before : List ℕ) (r : TurnedFrame) (after : List ℕ) → TurnResult t f before r after
-    → (ts : List ℕ) → turned-through ts (left-by f r after) ≡ turned-through (if-turned r t ts) f
+stands-turned : (t : ℕ) (f : Frame) (before : List ℕ) (r : TurnedFrame) (after : List ℕ) → Result (turn-call t f before) r after
+    → (ts : List ℕ) → turned-through ts (frame-after f r after) ≡ turned-through (if-turned r t ts) f
 unfolding turned-through
 stands-turned t f before (Accepted width height layout) after u ts = ap (turned-through ts) (leaves-turned t f u (sym (u .answer .number)))
 stands-turned t f before (Refused number) after u ts = refl
 
 -- and its questions are answered alike
-questions-kept : (t : ℕ) (f : Frame) (before : List ℕ) (r : TurnedFrame) (after : List ℕ) → TurnResult t f before r after
-    → (s : Settings) (room : Rooms) → finish-questions (left-by f r after) s room ≡ finish-questions f s room
+questions-kept : (t : ℕ) (f : Frame) (before : List ℕ) (r : TurnedFrame) (after : List ℕ) → Result (turn-call t f before) r after
+    → (s : Settings) (room : Rooms) → finish-questions (frame-after f r after) s room ≡ finish-questions f s room
 questions-kept t f before (Accepted width height layout) after u s room =
     ap (λ (g : Frame). finish-questions g s room) (leaves-turned t f u (sym (u .answer .number)))
     ∙ questions-turned t f (fillable t (f .width) (f .height) (f .layout) (length (f .samples)) (length before) 0 (u .answer .number) refl) s room
@@ -96,48 +97,57 @@ questions-kept t f before (Refused number) after u s room = refl
 standing-turned : (f : Frame) (runs : List TurnRun) → TurnHistory f runs → standing f runs ≡ turned-through (accepted-turns runs) f
 standing-turned f [] h = unfold turned-through in refl
 standing-turned f (run ∷ runs) h =
-    standing-turned (left-by f (run .answer) (run .after)) runs (h .1) ∙ stands-turned (run .turn) f (run .before) (run .answer) (run .after) (h .0) (accepted-turns runs)
+    standing-turned (frame-after f (run .answer) (run .after)) runs (h .1) ∙ stands-turned (run .turn) f (run .before) (run .answer) (run .after) (h .0) (accepted-turns runs)
 
 questions-standing : (f : Frame) (runs : List TurnRun) → TurnHistory f runs
     → (s : Settings) (room : Rooms) → finish-questions (standing f runs) s room ≡ finish-questions f s room
 questions-standing f [] h s room = refl
 questions-standing f (run ∷ runs) h s room =
-    questions-standing (left-by f (run .answer) (run .after)) runs (h .1) s room ∙ questions-kept (run .turn) f (run .before) (run .answer) (run .after) (h .0) s room
+    questions-standing (frame-after f (run .answer) (run .after)) runs (h .1) s room ∙ questions-kept (run .turn) f (run .before) (run .answer) (run .after) (h .0) s room
 
--- the two finishings, of each only the number of its answer
-pub finished-alike : (f : Frame) (turnings : List TurnRun) → TurnHistory f turnings → (s : Settings) (before₁ before₂ : Lent) → rooms-of before₁ ≡ rooms-of before₂
-    → {n₁ n₂ : ℕ} {after₁ after₂ : Lent} → FinishNumber f s before₁ n₁ after₁ → FinishNumber (standing f turnings) s before₂ n₂ after₂
-    → (n₁ ≡ n₂) × (n₁ ≡ 0 → after₂ .three ≡ turned-planes (accepted-turns turnings) f (after₁ .three))
-finished-alike f turnings h s before₁ before₂ room p q = (
-  p .number ∙ ap ask alike ∙ sym (q .number),
-  (λ z.
-      ap (λ (l : Lent). l .three) (q .leaves ∙ sym (left-yes second _ _ 0 (sym (sym (ap ask alike) ∙ sym (p .number) ∙ z)) refl))
-      ∙ ap (λ (g : Frame). finish-lists g s) (standing-turned f turnings h) ∙ finished-turned s (accepted-turns turnings) f
-      ∙ ap (λ (l : Lent). turned-planes (accepted-turns turnings) f (l .three)) (left-yes first (with-finished f s before₁) before₁ 0 (sym (sym (p .number) ∙ z)) refl ∙ sym (p .leaves))),
-)
-  where
-    first : List Question
-    first = finish-questions f s (rooms-of before₁)
-
-    second : List Question
-    second = finish-questions (standing f turnings) s (rooms-of before₂)
-
-    alike : first ≡ second
-    alike = ap (finish-questions f s) room ∙ sym (questions-standing f turnings h s (rooms-of before₂))
+-- ---- the two finishings
+-- equal numbers, 0 or not
+alike-by : (ts : List ℕ) (f : Frame) (n₁ n₂ : ℕ) (p₁ p₂ : Planes (List ℕ)) → n₁ ≡ n₂ → (n₁ ≡ 0 → p₂ ≡ turned-planes ts f p₁) → Alike ts f n₁ n₂ p₁ p₂
+alike-by ts f zero n₂ p₁ p₂ e turned = both-accepted refl (sym e) (turned refl)
+alike-by ts f (suc n) n₂ p₁ p₂ e turned = both-refused (λ z. omega arith) e
 
 -- Take any frame f and any list of turning calls, refused ones included, each given what the last accepted one before it left. Finish the
 -- frame as first given, and finish what stands after the list, with the same settings and buffer lengths, whatever planes and work
--- buffers held before. Then both have the same number, 0 for accepted; and where it is 0, each plane of the second is the first's plane of
--- that colour turned by the list's accepted turns in order.
-pub demand-3 : (f : Frame) (turnings : List TurnRun) → TurnHistory f turnings → (s : Settings) (before₁ before₂ : Lent) → rooms-of before₁ ≡ rooms-of before₂
-    → {r₁ r₂ : Answer} {after₁ after₂ : Lent} → FrameResult f s before₁ r₁ after₁ → FrameResult (standing f turnings) s before₂ r₂ after₂
-    → (number-of-answer r₁ ≡ number-of-answer r₂) × (number-of-answer r₁ ≡ 0 → after₂ .three ≡ turned-planes (accepted-turns turnings) f (after₁ .three))
-demand-3 f turnings h s before₁ before₂ room p q = finished-alike f turnings h s before₁ before₂ room (frame-number f s before₁ p refl) (frame-number (standing f turnings) s before₂ q refl)
+-- buffers held before. Then both are accepted, and each plane of the second is the first's plane of that colour turned by the list's accepted
+-- turns in order; or both are refused with the same number. Here of each call only the number of its answer.
+pub demand-3-numbered : (f : Frame) (turnings : List TurnRun) → TurnHistory f turnings → (s : Settings) (before₁ before₂ : Lent) → rooms-of before₁ ≡ rooms-of before₂
+    → {n₁ n₂ : ℕ} {after₁ after₂ : Lent} → Numbered (finish-call f s before₁) n₁ after₁ → Numbered (finish-call (standing f turnings) s before₂) n₂ after₂
+    → Alike (accepted-turns turnings) f n₁ n₂ (after₁ .three) (after₂ .three)
+demand-3-numbered f turnings h s before₁ before₂ room {n₁} {n₂} {after₁} {after₂} p q =
+    alike-by (accepted-turns turnings) f n₁ n₂ (after₁ .three) (after₂ .three) (p .number ∙ ap ask alike ∙ sym (q .number)) turned
+  where
+    first : Call Answer Lent
+    first = finish-call f s before₁
 
--- The same of the finishing call with a tally, with any two tallies.
+    second : Call Answer Lent
+    second = finish-call (standing f turnings) s before₂
+
+    alike : first .questions ≡ second .questions
+    alike = ap (finish-questions f s) room ∙ sym (questions-standing f turnings h s (rooms-of before₂))
+
+    turned : n₁ ≡ 0 → after₂ .three ≡ turned-planes (accepted-turns turnings) f (after₁ .three)
+    turned z =
+        ap (λ (l : Lent). l .three) (new-left second (q .leaves) (sym (ap ask alike) ∙ sym (p .number) ∙ z))
+        ∙ ap (λ (g : Frame). finish-lists g s) (standing-turned f turnings h) ∙ finished-turned s (accepted-turns turnings) f
+        ∙ ap (λ (l : Lent). turned-planes (accepted-turns turnings) f (l .three)) (sym (new-left first (p .leaves) (sym (p .number) ∙ z)))
+
+-- The same of the finishing call's answers.
+pub demand-3 : (f : Frame) (turnings : List TurnRun) → TurnHistory f turnings → (s : Settings) (before₁ before₂ : Lent) → rooms-of before₁ ≡ rooms-of before₂
+    → {r₁ r₂ : Answer} {after₁ after₂ : Lent} → Result (finish-call f s before₁) r₁ after₁ → Result (finish-call (standing f turnings) s before₂) r₂ after₂
+    → Alike (accepted-turns turnings) f (number-of-answer r₁) (number-of-answer r₂) (after₁ .three) (after₂ .three)
+demand-3 f turnings h s before₁ before₂ room p q =
+    demand-3-numbered f turnings h s before₁ before₂ room (to-number (finish-call f s before₁) p refl) (to-number (finish-call (standing f turnings) s before₂) q refl)
+
+-- And of the call with a tally, with any two tallies.
 pub demand-3-counted : (f : Frame) (turnings : List TurnRun) → TurnHistory f turnings → (s : Settings) (before₁ before₂ : Lent) → rooms-of before₁ ≡ rooms-of before₂
     → {tally₁ tally₂ : Tally} {r₁ r₂ : FinishAnswer} {after₁ after₂ : Lent}
-    → FinishResult (finish-call f s before₁ tally₁) r₁ after₁ → FinishResult (finish-call (standing f turnings) s before₂ tally₂) r₂ after₂
-    → (number-of-finish r₁ ≡ number-of-finish r₂) × (number-of-finish r₁ ≡ 0 → after₂ .three ≡ turned-planes (accepted-turns turnings) f (after₁ .three))
+    → FinishResult (finish-given f s before₁ tally₁) r₁ after₁ → FinishResult (finish-given (standing f turnings) s before₂ tally₂) r₂ after₂
+    → Alike (accepted-turns turnings) f (number-of-finish r₁) (number-of-finish r₂) (after₁ .three) (after₂ .three)
 demand-3-counted f turnings h s before₁ before₂ room p q =
-    finished-alike f turnings h s before₁ before₂ room (record { number = p .answer .number; leaves = p .leaves }) (record { number = q .answer .number; leaves = q .leaves })
+    demand-3-numbered f turnings h s before₁ before₂ room
+    (record { number = p .result .answer .number; leaves = p .result .leaves }) (record { number = q .result .answer .number; leaves = q .result .leaves })

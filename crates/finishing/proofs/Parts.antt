@@ -8,29 +8,28 @@ use native.Mathlib.Omega.{arith}
 use lib.IntN.{ℤ}
 use lib.ListN.{length}
 use borrow.Author.Tests.{eqb-true, leb-true, eq-eqb, le-leb}
+use Rattle.planes.specs.Planes.{Frame, Planes, planes, lengths, listing, plane-of, Agree}
+use Rattle.planes.proofs.Planes.{length-listing, listing-agree, plane-of-listing}
 use Rattle.questions.specs.Settings.{ceiling-of}
 use Rattle.questions.specs.Questions.{ask, all-at-most, shape-questions, settings-questions, frame-questions}
+use Rattle.questions.specs.Calls.{Result}
 use Rattle.questions.specs.declared.Settings.{Settings}
+use Rattle.questions.specs.declared.Answer.{Answer}
+use Rattle.questions.specs.Lent.{Lent, lent, rooms-of, buffer-questions}
 use Rattle.questions.proofs.Asking.{AllYes, all-yes, all-yes-split, all-yes-both, ask-zero}
-use Rattle.questions.proofs.Answering.{left-yes}
-use Rattle.turns.specs.Frames.{Frame, Planes, planes, lengths, listing, plane-of}
-use Rattle.turns.proofs.Commuting.{Agree}
-use Rattle.turns.proofs.Frames.{length-listing, listing-agree, plane-of-listing, plane-bound, listing-bound}
+use Rattle.questions.proofs.Answering.{new-left}
+use Rattle.turns.proofs.Frames.{plane-bound, listing-bound}
 use Rattle.work_buffer.specs.Buffer.{zeroed}
-use Rattle.work_buffer.specs.Lent.{Lent, lent, rooms-of, buffer-questions}
 use Rattle.work_buffer.proofs.Buffer.{length-zeroed, zeroed-again}
 use Rattle.estimate.specs.Estimates.{estimate}
-use Rattle.estimate.specs.Calls.{estimate-questions, estimate-lists, EstimateResult}
-use Rattle.estimate.specs.declared.EstimateAnswer.{EstimateAnswer}
+use Rattle.estimate.specs.Calls.{estimate-questions, estimate-lists, estimate-call}
 use Rattle.estimate.proofs.Ranges.{lists-bound}
 use Rattle.update.specs.Update.{update}
-use Rattle.update.specs.Calls.{updating-questions, update-questions, update-list, UpdateResult}
-use Rattle.update.specs.declared.UpdateAnswer.{UpdateAnswer}
+use Rattle.update.specs.Calls.{updating-questions, update-questions, update-list, update-call}
 use Rattle.update.proofs.Mixing.{update-bound}
 use Rattle.update.proofs.Turned.{update-commutes}
 use Rattle.rounds.specs.Rounds.{rounds}
-use Rattle.rounds.specs.Calls as rounds
-use Rattle.rounds.specs.declared.RoundsAnswer.{RoundsAnswer}
+use Rattle.rounds.specs.Calls.{planes-questions, rounds-questions, rounds-lists, rounds-call}
 use Rattle.rounds.proofs.Turned.{rounds-commute}
 use Rattle.rounds.proofs.Calls.{lists-are}
 use Rattle.finishing.specs.Finishing.{updated, finish, finish-lists}
@@ -110,11 +109,11 @@ module _ (f : Frame) (s : Settings) (before : Lent) (e : 0 ≡ ask (finish-quest
   zeroed-room : 8 * count ≤ length (given .work)
   zeroed-room = omega (arith, work-room, length-zeroed (f .width) (f .height) (before .work) work-room)
 
-  pub rounds-accepts : 0 ≡ ask (rounds.rounds-questions f s given)
+  pub rounds-accepts : 0 ≡ ask (rounds-questions f s given)
   unfolding updated-lists
   rounds-accepts =
-      sym (ask-zero (rounds.rounds-questions f s given)
-      (all-yes-both (frame-questions (f .width) (f .height) (f .layout) s) (buffer-questions top count (f .samples) (rooms-of given) ++ rounds.planes-questions top (given .three)) (known .0) (
+      sym (ask-zero (rounds-questions f s given)
+      (all-yes-both (frame-questions (f .width) (f .height) (f .layout) s) (buffer-questions top count (f .samples) (rooms-of given) ++ planes-questions top (given .three)) (known .0) (
         eq-eqb (length (f .samples)) count long,
         (
           eq-eqb (length (first .red)) count (ap (λ p. p .red) (estimates-long top f)),
@@ -135,7 +134,7 @@ module _ (f : Frame) (s : Settings) (before : Lent) (e : 0 ≡ ask (finish-quest
       )))
 
 -- ---- what the parts leave together
-pub finished-by-parts : (f : Frame) (s : Settings) → rounds.rounds-lists f s (updated-lists (ceiling-of s) f) ≡ finish-lists f s
+pub finished-by-parts : (f : Frame) (s : Settings) → rounds-lists f s (updated-lists (ceiling-of s) f) ≡ finish-lists f s
 unfolding updated-lists finish-lists finish
 finished-by-parts f s =
     lists-are f s (updated-lists top f) (update-long top f (estimate-lists top f .green))
@@ -181,11 +180,11 @@ finished-by-parts f s =
 
 -- what is left after the three calls, each given what the one before it left
 pub parts-leave : (f : Frame) (s : Settings) (before : Lent) → 0 ≡ ask (finish-questions f s (rooms-of before))
-    → {a : EstimateAnswer} {b : UpdateAnswer} {c : RoundsAnswer} {first : Planes (List ℕ)} {green : List ℕ} {work : List ℤ} {last : Lent}
-    → EstimateResult (ceiling-of s) f (before .three) a first → UpdateResult (ceiling-of s) f (first .green) (before .work) b green work
-    → rounds.RoundsResult f s (lent (first .red) green (first .blue) work) c last → last ≡ with-finished f s before
+    → {a b c : Answer} {first : Planes (List ℕ)} {green : List ℕ} {work : List ℤ} {last : Lent}
+    → Result (estimate-call (ceiling-of s) f (before .three)) a first → Result (update-call (ceiling-of s) f (first .green) (before .work)) b (green, work)
+    → Result (rounds-call f s (lent (first .red) green (first .blue) work)) c last → last ≡ with-finished f s before
 parts-leave f s before e {b = b} {c = c} {first} {green} {work} {last} p q r =
-    t .leaves ∙ sym (left-yes (rounds.rounds-questions f s left) (rounds.with-rounds f s left) left 0 (rounds-accepts f s before e) refl)
+    new-left (rounds-call f s left) (subst (λ (x : Lent). Result (rounds-call f s x) c last) given r .leaves) (sym (rounds-accepts f s before e))
     ∙ (λ i. record { three = finished-by-parts f s i; work = zeroed-again (f .width) (f .height) (before .work) (work-room f s before e) i })
   where
     top : ℕ
@@ -193,27 +192,17 @@ parts-leave f s before e {b = b} {c = c} {first} {green} {work} {last} p q r =
 
     -- the estimate leaves its lists
     estimated : first ≡ estimate-lists top f
-    estimated = p .leaves ∙ sym (left-yes (estimate-questions top f (lengths (before .three))) _ _ 0 (estimate-accepts f s before e) refl)
+    estimated = new-left (estimate-call top f (before .three)) (p .leaves) (sym (estimate-accepts f s before e))
 
-    -- the update, given them
-    u : UpdateResult top f (estimate-lists top f .green) (before .work) b green work
-    u = subst (λ (x : Planes (List ℕ)). UpdateResult top f (x .green) (before .work) b green work) estimated q
+    -- the update, given them, the updated green and zeros
+    updated : _≡_ {A = List ℕ × List ℤ} (green, work) (update-list top f (estimate-lists top f .green), zeroed (f .width) (f .height) (before .work))
+    updated =
+        new-left (update-call top f (estimate-lists top f .green) (before .work))
+        (subst (λ (x : Planes (List ℕ)). Result (update-call top f (x .green) (before .work)) b (green, work)) estimated q .leaves) (sym (update-accepts f s before e))
 
-    updating : 0 ≡ ask (update-questions top f (estimate-lists top f .green) (length (before .work)))
-    updating = update-accepts f s before e
-
-    updated-green : green ≡ update-list top f (estimate-lists top f .green)
-    updated-green = u .leaves .plane ∙ sym (left-yes (update-questions top f (estimate-lists top f .green) (length (before .work))) (update-list top f (estimate-lists top f .green)) (estimate-lists top f .green) 0 updating refl)
-
-    zero : work ≡ zeroed (f .width) (f .height) (before .work)
-    zero = u .leaves .buffer ∙ sym (left-yes (update-questions top f (estimate-lists top f .green) (length (before .work))) _ _ 0 updating refl)
-
-    -- and the rounds, given what it left
+    -- and the rounds are given what it left
     left : Lent
     left = record { three = updated-lists top f; work = zeroed (f .width) (f .height) (before .work) }
 
     given : lent (first .red) green (first .blue) work ≡ left
-    given = unfold updated-lists in (λ i. lent (estimated i .red) (updated-green i) (estimated i .blue) (zero i))
-
-    t : rounds.RoundsResult f s left c last
-    t = subst (λ (x : Lent). rounds.RoundsResult f s x c last) given r
+    given = unfold updated-lists in (λ i. lent (estimated i .red) (updated i .0) (estimated i .blue) (updated i .1))

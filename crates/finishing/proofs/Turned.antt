@@ -2,9 +2,10 @@
 use mathlib.Core.Path.{_≡_, refl, _∙_, ap}
 use mathlib.Core.List.{List, [], _∷_}
 use Prim.Native.Nat.{ℕ}
+use Rattle.planes.specs.Planes.{Frame, frame, Planes, planes, listing, plane-of}
 use Rattle.questions.specs.Settings.{ceiling-of}
 use Rattle.questions.specs.declared.Settings.{Settings}
-use Rattle.turns.specs.Frames.{Frame, frame, Planes, planes, listing, plane-of, picture-of, frame-of, turn-frame}
+use Rattle.turns.specs.Frames.{picture-of, frame-of, turn-frame}
 use Rattle.turns.specs.Operations.{Operation}
 use Rattle.turns.specs.Pictures.{steps-of, turned}
 use Rattle.turns.proofs.Pictures.{≈-sym, ≈-trans, turned-by-≈}

@@ -3,17 +3,17 @@
 use mathlib.Core.Path.{_≡_}
 use mathlib.Core.List.{List}
 use Prim.Native.Nat.{ℕ}
+use Rattle.planes.specs.Planes.{Frame}
 use Rattle.questions.specs.Settings.{rounds-of}
 use Rattle.questions.specs.Questions.{Question, ask}
-use Rattle.questions.specs.Answers.{number-of-answer, Answered, Numbered, if-accepted}
+use Rattle.questions.specs.Calls.{Call, Result, plain-call}
 use Rattle.questions.specs.declared.Settings.{Settings}
 use Rattle.questions.specs.declared.Answer.{Answer}
 use Rattle.questions.specs.declared.Answer.the-variants as answer
+use Rattle.questions.specs.Lent.{Lent, Rooms, rooms-of, lent-questions}
 use Rattle.tally.specs.Tally.{next-tally}
 use Rattle.tally.specs.declared.Tally.{Tally}
-use Rattle.turns.specs.Frames.{Frame}
 use Rattle.work_buffer.specs.Buffer.{zeroed}
-use Rattle.work_buffer.specs.Lent.{Lent, Rooms, rooms-of, lent-questions}
 use Rattle.finishing.specs.Finishing.{finish-lists}
 use Rattle.finishing.specs.declared.FinishAnswer.{FinishAnswer}
 use Rattle.finishing.specs.declared.FinishAnswer.the-variants as finish-answer
@@ -27,32 +27,24 @@ finish-questions = lent-questions
 abbrev pub with-finished : Frame → Settings → Lent → Lent
 with-finished f s before = record { three = finish-lists f s; work = zeroed (f .width) (f .height) (before .work) }
 
--- the call, given frame f, settings s, and planes and work buffer that held `before`: what they hold after
-abbrev pub FinishLeaves : Frame → Settings → Lent → Lent → Type 0
-FinishLeaves f s before after = after ≡ if-accepted (finish-questions f s (rooms-of before)) (with-finished f s before) before
-
--- and its answer r
-pub record FrameResult (f : Frame) (s : Settings) (before : Lent) (r : Answer) (after : Lent) : Type 0 where
-  pub answer : Answered number-of-answer (finish-questions f s (rooms-of before)) answer.Accepted r
-  pub leaves : FinishLeaves f s before after
-
--- of the answer only its number r
-abbrev pub FinishNumber : Frame → Settings → Lent → ℕ → Lent → Type 0
-FinishNumber f s before r after = Numbered (finish-questions f s (rooms-of before)) (FinishLeaves f s before after) r
+-- the finishing call, given frame f, settings s, and planes and work buffer that held `before`
+abbrev pub finish-call : Frame → Settings → Lent → Call Answer Lent
+finish-call f s before = plain-call (finish-questions f s (rooms-of before)) (with-finished f s before) before
 
 -- ---- with a tally
 -- what the call is given then
-pub record FinishCall : Type 0 where
+pub record FinishGiven : Type 0 where
   pub frame : Frame
   pub settings : Settings
   pub before : Lent
   pub tally : Tally
 
-abbrev pub finish-call : Frame → Settings → Lent → Tally → FinishCall
-finish-call f s before tally = record { frame = f; settings = s; before = before; tally = tally }
+abbrev pub finish-given : Frame → Settings → Lent → Tally → FinishGiven
+finish-given f s before tally = record { frame = f; settings = s; before = before; tally = tally }
 
-abbrev pub questions-of : FinishCall → List Question
-questions-of c = finish-questions (c .frame) (c .settings) (rooms-of (c .before))
+-- the same call without it
+abbrev pub untallied : FinishGiven → Call Answer Lent
+untallied g = finish-call (g .frame) (g .settings) (g .before)
 
 -- the number of its answer, and the tally that it hands back
 abbrev pub number-of-finish : FinishAnswer → ℕ
@@ -68,12 +60,21 @@ abbrev pub with-tally : Answer → Tally → FinishAnswer
 with-tally answer.Accepted tally = finish-answer.Accepted tally
 with-tally (answer.Refused number) tally = finish-answer.Refused number tally
 
--- the tally after call c
-abbrev pub next-of : FinishCall → Tally
-next-of c = next-tally (ask (questions-of c)) (rounds-of (c .settings)) (c .tally)
+-- the tally after the call
+abbrev pub next-of : FinishGiven → Tally
+next-of g = next-tally (ask (untallied g .questions)) (rounds-of (g .settings)) (g .tally)
 
--- call c's answer r, and what planes and work buffer hold after
-pub record FinishResult (c : FinishCall) (r : FinishAnswer) (after : Lent) : Type 0 where
-  pub answer : Answered number-of-finish (questions-of c) (finish-answer.Accepted (next-of c)) r
-  pub next : tally-of-finish r ≡ next-of c
-  pub leaves : FinishLeaves (c .frame) (c .settings) (c .before) after
+-- the finishing call with a tally
+abbrev pub tallied : FinishGiven → Call FinishAnswer Lent
+tallied g = record {
+  questions = untallied g .questions;
+  number-of = number-of-finish;
+  answer = finish-answer.Accepted (next-of g);
+  new = untallied g .new;
+  old = untallied g .old;
+}
+
+-- its answer r, which has the next tally in it, accepted or refused, and what planes and work buffer hold after
+pub record FinishResult (g : FinishGiven) (r : FinishAnswer) (after : Lent) : Type 0 where
+  pub result : Result (tallied g) r after
+  pub next : tally-of-finish r ≡ next-of g

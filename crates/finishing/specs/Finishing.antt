@@ -1,9 +1,9 @@
 -- Document 01, "Rounds": finishing is estimate, update, rounds, into three planes. Assumes nothing.
 use mathlib.Core.List.{List}
 use Prim.Native.Nat.{ℕ}
+use Rattle.planes.specs.Planes.{Planes, planes, Frame, listings, plane-of}
 use Rattle.questions.specs.Settings.{ceiling-of}
 use Rattle.questions.specs.declared.Settings.{Settings}
-use Rattle.turns.specs.Frames.{Planes, planes, Frame, listings, plane-of}
 use Rattle.turns.specs.Operations.{Operation}
 use Rattle.estimate.specs.Estimates.{estimate}
 use Rattle.update.specs.Update.{update}

@@ -3,10 +3,11 @@ use questions::Answer;
 use questions::Settings;
 use tally::Tally;
 ghost use mathlib.Core.Path.{_≡_};
+ghost use Rattle.planes.specs.Planes.{frame};
 ghost use Rattle.questions.specs.Questions.{ask};
-ghost use Rattle.turns.specs.Frames.{frame};
-ghost use Rattle.work_buffer.specs.Lent.{lent, rooms-of};
-ghost use Rattle.finishing.specs.Calls.{finish-questions, with-finished, FrameResult, finish-call, number-of-finish, with-tally, FinishResult};
+ghost use Rattle.questions.specs.Calls.{Result};
+ghost use Rattle.questions.specs.Lent.{lent, rooms-of};
+ghost use Rattle.finishing.specs.Calls.{finish-questions, with-finished, finish-call, finish-given, number-of-finish, with-tally, FinishResult};
 
 // What the finishing call answers: the next tally, and a refusal's number before it.
 pub enum FinishAnswer {
@@ -59,9 +60,9 @@ pub fn finish_frame(
     blue: &mut [u16],
     work: &mut [i32],
 ) -> Answer
-    ensures { λ r. ⌜ FrameResult (frame width height layout (now (mosaic .entry))) settings (lent (now (red .entry)) (now (green .entry)) (now (blue .entry)) (now (work .entry))) r (lent (now (red .exit)) (now (green .exit)) (now (blue .exit)) (now (work .exit))) ⌝ }
+    ensures { λ r. ⌜ Result (finish-call (frame width height layout (now (mosaic .entry))) settings (lent (now (red .entry)) (now (green .entry)) (now (blue .entry)) (now (work .entry)))) r (lent (now (red .exit)) (now (green .exit)) (now (blue .exit)) (now (work .exit))) ⌝ }
 {
-    let refusal = work_buffer::lent_refusal(
+    let refusal = questions::lent_refusal(
         width,
         height,
         layout,
@@ -112,7 +113,7 @@ pub fn finish(
     work: &mut [i32],
     tally: Tally,
 ) -> FinishAnswer
-    ensures { λ r. ⌜ FinishResult (finish-call (frame width height layout (now (mosaic .entry))) settings (lent (now (red .entry)) (now (green .entry)) (now (blue .entry)) (now (work .entry))) tally) r (lent (now (red .exit)) (now (green .exit)) (now (blue .exit)) (now (work .exit))) ⌝ }
+    ensures { λ r. ⌜ FinishResult (finish-given (frame width height layout (now (mosaic .entry))) settings (lent (now (red .entry)) (now (green .entry)) (now (blue .entry)) (now (work .entry))) tally) r (lent (now (red .exit)) (now (green .exit)) (now (blue .exit)) (now (work .exit))) ⌝ }
 {
     let answer = finish_frame(
         width,

@@ -16,11 +16,12 @@ use Rattle.integers.proofs.Bounds.{abs-read, fits-abs, minus-pos}
 use Rattle.integers.proofs.Lists.{length-overwrite, overwrite-in, overwrite-after, overwrite-at, overwrite-again, overwrite-cong}
 use Rattle.border.specs.Border.{reflect}
 use Rattle.border.proofs.Reflection.{reflect-lt, reflect-inside}
+use Rattle.planes.specs.Lists.{value}
 use Rattle.filters.specs.Bank.{Taps, weighted, tap, along, low-join, high-join}
 use Rattle.filters.proofs.Taps.{weighted-three}
 use Rattle.filters.proofs.Ranges.{gain, weighted-range}
 use Rattle.lines.specs.declared.Five.{Five}
-use Rattle.lines.specs.Lines.{value, Run, Runs, in-turn, three, five, joined, meant, padded}
+use Rattle.lines.specs.Lines.{Run, Runs, in-turn, three, five, joined, meant, padded}
 
 -- ---- runs
 -- a value of a run, as the machine reads it

@@ -3,15 +3,12 @@
 use mathlib.Core.List.{List}
 use Prim.Native.Nat.{ℕ, _+_, _≤_, _<_}
 use lib.IntN.{ℤ, pos, natAbs, _+ℤ_, _-ℤ_}
-use lib.ListN.{getD, length}
+use lib.ListN.{length}
 use Rattle.integers.specs.Lists.{overwrite}
 use Rattle.border.specs.Border.{reflect}
+use Rattle.planes.specs.Lists.{value}
 use Rattle.filters.specs.Bank.{Taps, weighted, low-join, high-join}
 use Rattle.lines.specs.declared.Five.{Five}
-
--- the value at place k
-abbrev pub value : List ℤ → ℕ → ℤ
-value l k = getD l k (pos 0)
 
 -- the n places from o on are in the list, and none of their values is farther from 0 than `most`
 pub record Run (most : ℕ) (l : List ℤ) (o n : ℕ) : Type 0 where

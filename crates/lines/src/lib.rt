@@ -5,8 +5,9 @@ ghost use Prim.Native.Nat.{ℕ, _+_, _≤_, _<_};
 ghost use lib.ListN.{length};
 ghost use lib.IntN.{_+ℤ_};
 ghost use Rattle.integers.specs.Lists.{overwrite};
+ghost use Rattle.planes.specs.Lists.{value};
 ghost use Rattle.filters.specs.Bank.{low-split, high-split, low-join, high-join, along};
-ghost use Rattle.lines.specs.Lines.{value, Run, Runs, three, five, joined, meant, padded};
+ghost use Rattle.lines.specs.Lines.{Run, Runs, three, five, joined, meant, padded};
 
 // Three lines of n, from a, b and c on, through both split filters: into `low` and `high`, from `at` on.
 pub fn split_line(

@@ -16,8 +16,8 @@ use Rattle.integers.proofs.Linear.{linear, number, x₀, x₁, _⊕_, _⊖_}
 use Rattle.integers.proofs.Lists.{tabulate-cong}
 use Rattle.border.specs.Border.{reflect}
 use Rattle.border.proofs.Reflection.{reflect-inside}
-use Rattle.turns.specs.Frames.{plane-of}
-use Rattle.turns.proofs.Frames.{row-room}
+use Rattle.planes.specs.Planes.{plane-of}
+use Rattle.planes.proofs.Planes.{row-room}
 use Rattle.neighbourhood.specs.Inner.{inner}
 use Rattle.neighbourhood.specs.Place.{neighbourhood}
 

@@ -8,7 +8,7 @@ use lib.ListN.{getD}
 use Rattle.integers.specs.Lists.{tabulate}
 use Rattle.integers.proofs.Tests.{never}
 use Rattle.border.specs.Border.{reflect}
-use Rattle.turns.specs.Layout.{Colour, red, green, blue, by-parity}
+use Rattle.planes.specs.Layout.{Colour, red, green, blue, by-parity}
 use Rattle.turns.specs.Operations.{Around}
 use Rattle.neighbourhood.specs.Inner.{line-of}
 use Rattle.neighbourhood.specs.Place.{neighbourhood, around, row-of, column-of, greens, two-away, gradient, along-line, along-both, eight-greens, hamilton-adams, green-at, of-two, of-four, bilinear}

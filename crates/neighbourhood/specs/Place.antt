@@ -9,7 +9,7 @@ use lib.ListN.{getD}
 use Rattle.integers.specs.Numbers.{rounded, clamp}
 use Rattle.integers.specs.Lists.{tabulate}
 use Rattle.border.specs.Border.{reflect}
-use Rattle.turns.specs.Layout.{Colour, red, green, blue}
+use Rattle.planes.specs.Layout.{Colour, red, green, blue}
 use Rattle.turns.specs.Operations.{Around}
 
 -- ---- the neighbourhood

@@ -9,8 +9,8 @@ ghost use lib.ListN.{length, getD};
 ghost use Rattle.integers.specs.Numbers.{rounded, clamp};
 ghost use Rattle.integers.specs.Lists.{tabulate};
 ghost use Rattle.border.specs.Border.{reflect};
-ghost use Rattle.turns.specs.Layout.{by-parity};
-ghost use Rattle.turns.specs.Frames.{plane-of};
+ghost use Rattle.planes.specs.Layout.{by-parity};
+ghost use Rattle.planes.specs.Planes.{plane-of};
 ghost use Rattle.neighbourhood.specs.Inner.{Mosaic, inner, line-of, half-along, Small, most-detail, most-along, most-greens};
 ghost use Rattle.neighbourhood.specs.Place.{neighbourhood as neighbourhood-of, around, greens as greens-of, two-away as two-away-of, gradient as gradient-of, eight-greens as eight-of, hamilton-adams, green-at as green-by, of-two as two-rounded, of-four as four-rounded, bilinear};
 

@@ -43,11 +43,11 @@ unfolding same-shape
 same-shape-yes f g s = λ j. eq-eqb _ _ (s .width) j && (eq-eqb _ _ (s .height) j && eq-eqb _ _ (s .layout) j)
 
 -- width, height, layout and samples agree
-pub record Agree (a b : List ℕ) : Type 0 where
+pub record SameFrame (a b : List ℕ) : Type 0 where
   pub shape : SameShape (fields-of a) (fields-of b)
   pub samples : samples-of a ≡ samples-of b
 
-pub repeats-agree : (a b : List ℕ) → repeats a b ≡ true → Agree a b
+pub repeats-agree : (a b : List ℕ) → repeats a b ≡ true → SameFrame a b
 unfolding repeats
 repeats-agree a b e =
     let F = same-shape (fields-of a) (fields-of b) in
@@ -57,7 +57,7 @@ repeats-agree a b e =
       samples = same-list-is (samples-of a) (samples-of b) (is-true S (and-right F S (true-is e)));
     }
 
-pub agree-repeats : (a b : List ℕ) → Agree a b → repeats a b ≡ true
+pub agree-repeats : (a b : List ℕ) → SameFrame a b → repeats a b ≡ true
 unfolding repeats
 agree-repeats a b g = λ j. same-shape-yes (fields-of a) (fields-of b) (g .shape) j && same-list-yes (samples-of a) (samples-of b) (g .samples) j
 

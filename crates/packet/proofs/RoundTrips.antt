@@ -12,18 +12,20 @@ use borrow.Author.Tests.{le-leb, eq-eqb}
 use Rattle.integers.proofs.Tests.{true-is}
 use Rattle.questions.specs.Questions.{Question, ask, all-at-most, samples-question}
 use Rattle.questions.specs.Settings.{ceiling-of}
-use Rattle.questions.specs.Answers.{if-accepted}
+use Rattle.questions.specs.Calls.{Result}
 use Rattle.questions.proofs.Asking.{AllYes, all-yes-both, ask-zero, all-at-most-at, ceiling-fits}
-use Rattle.questions.proofs.Answering.{left-yes}
+use Rattle.questions.proofs.Answering.{left-yes, new-left}
 use Rattle.little_endian.specs.Bytes.{bytes-of, number-at, sample-bytes, samples-in}
 use Rattle.little_endian.proofs.Bytes.{Below, below-by, below-take, below-drop, number-at-drop, number-of-bytes, bytes-of-number}
 use Rattle.little_endian.proofs.Samples.{length-sample-bytes, length-samples-in, samples-of-bytes, bytes-of-samples}
 use Rattle.packet.specs.Packet.{distance, trailer, packet, trailer-place, fields-of, distance-in, first-place, sample-part, samples-of}
-use Rattle.packet.specs.Calls.{fields-questions, distance-questions, store-questions, read-questions, filling-questions, mosaic-questions, writing-questions, write-questions, number-of-written, ReadResult, part-read, MosaicResult, WriteResult}
+use Rattle.packet.specs.Calls.{fields-questions, distance-questions, store-questions, read-questions, filling-questions, mosaic-questions, writing-questions, write-questions, ReadResult, part-read, mosaic-call, write-call}
+use Rattle.packet.specs.RoundTrips.{ReadsBack, WasRead, into-mosaic, as-part}
 use Rattle.packet.specs.declared.Fields.{Fields}
 use Rattle.packet.specs.declared.ReadPacket.{ReadPacket}
 use Rattle.packet.specs.declared.ReadPacket.the-variants.{Sound, Refused}
 use Rattle.packet.specs.declared.WrittenPacket.{WrittenPacket}
+use Rattle.packet.specs.declared.WrittenPacket.the-variants as written
 use Rattle.packet.specs.declared.WrittenPacket.the-variants.{Bytes}
 use Rattle.packet.proofs.Stores.{SoundPacket, sound, filling, length-part}
 use Rattle.packet.proofs.Writing.{Writable, writable, length-packet}
@@ -114,19 +116,17 @@ module _ (older : List ℕ) (f : Fields) (s : List ℕ) (room : ℕ) (k : Writab
       (all-yes-both (store-questions Store) (samples-question (ceiling-of (fields-of Store .settings)) (samples-of Store) ∷ []) (le-leb 12 (length Store) (omega (arith, length-store)), rest) ((λ j. all-at-most (ceiling-of (fields-back j .settings)) (samples-back j)) ∙ k .small, tt))
 
 -- what is read of a store: this frame
-pub record Reads (store : List ℕ) (f : Fields) (s : List ℕ) : Type 0 where
-  pub sound : ask (read-questions store) ≡ 0
-  pub fields : fields-of store ≡ f
-  pub part : sample-part store ≡ sample-bytes s
-  pub samples : samples-of store ≡ s
+record Reads (store : List ℕ) (f : Fields) (s : List ℕ) : Type 0 where
+  sound : ask (read-questions store) ≡ 0
+  fields : fields-of store ≡ f
+  samples : samples-of store ≡ s
 
-pub written-reads-back : (older : List ℕ) (f : Fields) (s : List ℕ) (room : ℕ) → ask (write-questions f s room) ≡ 0 → Reads (older ++ packet f s) f s
+written-reads-back : (older : List ℕ) (f : Fields) (s : List ℕ) (room : ℕ) → ask (write-questions f s room) ≡ 0 → Reads (older ++ packet f s) f s
 written-reads-back older f s room z =
     let k = writable f s room 0 (sym z) refl in
     record {
       sound = sound-back older f s room k;
       fields = fields-back older f s room k;
-      part = part-back older f s room k;
       samples = samples-back older f s room k;
     }
 
@@ -160,7 +160,7 @@ module _ (s : List ℕ) (k : SoundPacket s) (b : Below 256 s) where
   samples-again = bytes-of-samples (sample-part s) (fields-of s .width * fields-of s .height) (length-part s (k .at)) part-bytes
 
   -- the bytes from the first sample on
-  pub packet-again : packet (fields-of s) (samples-of s) ≡ drop (first-place s) s
+  packet-again : packet (fields-of s) (samples-of s) ≡ drop (first-place s) s
   unfolding packet sample-part
   packet-again =
       let a = first-place s in
@@ -172,7 +172,7 @@ module _ (s : List ℕ) (k : SoundPacket s) (b : Below 256 s) where
       end = omega (arith, k .at .long, k .at .within, k .at .back)
 
   -- the writer accepts what was read, into a buffer that is long enough
-  pub accepted-again : (room : ℕ) → distance (fields-of s) ≤ room → ask (write-questions (fields-of s) (samples-of s) room) ≡ 0
+  accepted-again : (room : ℕ) → distance (fields-of s) ≤ room → ask (write-questions (fields-of s) (samples-of s) room) ≡ 0
   accepted-again room h =
       let f = fields-of s in
       ask-zero (write-questions f (samples-of s) room)
@@ -180,38 +180,18 @@ module _ (s : List ℕ) (k : SoundPacket s) (b : Below 256 s) where
       (eq-eqb (length (samples-of s)) (f .width * f .height) (length-samples-in (sample-part s) (f .width * f .height) (length-part s (k .at))), (k .small, (le-leb (distance f) room h, tt))))
 
 -- ---- the calls, one after another
--- what an accepted call leaves in a buffer
-left : {A : Type 0} (qs : List Question) (new old : A) → ask qs ≡ 0 → if-accepted qs new old ≡ new
-left qs new old z = sym (left-yes qs new old (ask qs) refl z)
-
--- The writer accepted a frame: it answered the packet's length, and those first bytes, behind any older ones, are read as that frame.
-pub write-then-read : (f : Fields) (s before after : List ℕ) (w : WrittenPacket) → WriteResult f s before w after → number-of-written w ≡ 0
-    → (w ≡ Bytes (distance f)) × ((older : List ℕ) → Reads (older ++ take (distance f) after) f s)
-write-then-read f s before after w result z = (result .answer .accepted yes, λ older. subst (λ (l : List ℕ). Reads (older ++ l) f s) (sym first) (written-reads-back older f s (length before) yes))
-  where
-    qs : List Question
-    qs = write-questions f s (length before)
-
-    yes : ask qs ≡ 0
-    yes = sym (result .answer .number) ∙ z
-
-    first : take (distance f) after ≡ packet f s
-    first =
-        ap (take (distance f)) (result .buffer ∙ left qs (packet f s ++ drop (distance f) before) before yes)
-        ∙ take-at (packet f s) (drop (distance f) before) (distance f) (length-packet f s (writable f s (length before) 0 (sym yes) refl .given))
-
--- What the three reading calls answer of a store that is read as a frame.
+-- what the three reading calls answer of a store that is read as a frame
 module _ (store : List ℕ) (f : Fields) (s : List ℕ) (h : Reads store f s) where
-  pub fields-read : (r : ReadPacket) → ReadResult store r → r ≡ Sound f
+  fields-read : (r : ReadPacket) → ReadResult store r → r ≡ Sound f
   fields-read r result = result .accepted (h .sound) ∙ ap (λ (g : Fields). Sound g) (h .fields)
 
-  pub part-is-bytes : (p : List ℕ) → p ≡ part-read store → p ≡ sample-bytes s
-  part-is-bytes p e = e ∙ left (read-questions store) (sample-part store) [] (h .sound) ∙ h .part
+  samples-read : (p : List ℕ) → p ≡ part-read store → samples-in p ≡ s
+  samples-read p e = ap samples-in (e ∙ sym (left-yes (read-questions store) (sample-part store) [] 0 (sym (h .sound)) refl)) ∙ h .samples
 
-  pub mosaic-read : (before after : List ℕ) (r : ReadPacket) → length before ≡ f .width * f .height → MosaicResult store before r after → (r ≡ Sound f) × (after ≡ s)
-  mosaic-read before after r e result = (
+  mosaic-read : (before : List ℕ) (r : ReadPacket) (after : List ℕ) → length before ≡ f .width * f .height → Result (mosaic-call store before) r after → (r ≡ Sound f) × (after ≡ s)
+  mosaic-read before r after e result = (
     result .answer .accepted yes ∙ ap (λ (g : Fields). Sound g) (h .fields),
-    result .buffer ∙ left (mosaic-questions store (length before)) (samples-of store) before yes ∙ h .samples,
+    new-left (mosaic-call store before) (result .leaves) yes ∙ h .samples,
   )
     where
       k : SoundPacket store
@@ -225,36 +205,79 @@ module _ (store : List ℕ) (f : Fields) (s : List ℕ) (h : Reads store f s) wh
           ask-zero (mosaic-questions store (length before))
           (all-yes-both (store-questions store) (filling-questions (fields-of store) (samples-of store) (length before)) (k .at .answers) (eq-eqb _ _ area, (k .small, tt)))
 
+-- the length that an accepted writing call answers
+abbrev length-or : ℕ → WrittenPacket → ℕ
+length-or n (Bytes m) = m
+length-or n (written.Refused number) = n
+
+-- A packet written reads back as the same frame: the writer accepted fields f and these samples and answered n, and the buffer's first
+-- n bytes are read as those fields and those samples, behind any older bytes.
+pub write-then-read : (f : Fields) (samples before : List ℕ) (n : ℕ) (after : List ℕ) → Result (write-call f samples before) (Bytes n) after → ReadsBack f samples n after
+write-then-read f samples before n after result = record {
+  how-many = count;
+  fields = λ older. fields-read (older ++ take n after) f samples (reads older);
+  part = λ older. samples-read (older ++ take n after) f samples (reads older);
+  mosaic = λ older. mosaic-read (older ++ take n after) f samples (reads older);
+}
+  where
+    qs : List Question
+    qs = write-questions f samples (length before)
+
+    yes : ask qs ≡ 0
+    yes = sym (result .answer .number)
+
+    count : n ≡ distance f
+    count = ap (length-or n) (result .answer .accepted yes)
+
+    first : take n after ≡ packet f samples
+    first =
+        (λ j. take (count j) (new-left (write-call f samples before) (result .leaves) yes j))
+        ∙ take-at (packet f samples) (drop (distance f) before) (distance f) (length-packet f samples (writable f samples (length before) 0 (sym yes) refl .given))
+
+    reads : (older : List ℕ) → Reads (older ++ take n after) f samples
+    reads older = subst (λ (l : List ℕ). Reads (older ++ l) f samples) (sym first) (written-reads-back older f samples (length before) yes)
+
 -- the fields of a sound packet's answer
 abbrev fields-or : Fields → ReadPacket → Fields
 fields-or f (Sound g) = g
 fields-or f (Refused n) = f
 
--- A packet was read into a mosaic, and its fields and the mosaic are written into a buffer that is long enough: the buffer
--- begins with the very bytes of the packet.
-pub read-then-write : (store : List ℕ) → Below 256 store → (f : Fields) (mosaic samples : List ℕ) → MosaicResult store mosaic (Sound f) samples
-    → (before after : List ℕ) (w : WrittenPacket) → distance f ≤ length before → WriteResult f samples before w after
+-- what was read of a store, by either reader, is what a sound packet in it holds
+record Held (store : List ℕ) (f : Fields) (s : List ℕ) : Type 0 where
+  sound : SoundPacket store
+  fields : f ≡ fields-of store
+  samples : s ≡ samples-of store
+
+held : (store : List ℕ) (f : Fields) (s : List ℕ) → WasRead store f s → Held store f s
+held store f s (into-mosaic before read) = record {
+  sound = filling store (length before) 0 (read .answer .number) refl .packet;
+  fields = ap (fields-or f) (read .answer .accepted (sym (read .answer .number)));
+  samples = new-left (mosaic-call store before) (read .leaves) (sym (read .answer .number));
+}
+held store f s (as-part read part e copied) = record {
+  sound = sound store 0 (read .number) refl;
+  fields = ap (fields-or f) (read .accepted (sym (read .number)));
+  samples = copied ∙ ap samples-in (e ∙ sym (left-yes (read-questions store) (sample-part store) [] 0 (read .number) refl));
+}
+
+-- A packet read and written again is the same bytes: its fields and samples were read of a store of bytes, by either reader, and are
+-- written into a buffer that is long enough. The writer accepts, and the buffer begins with the very bytes of the packet.
+pub read-then-write : (store : List ℕ) → Below 256 store → (f : Fields) (samples : List ℕ) → WasRead store f samples
+    → (before : List ℕ) (w : WrittenPacket) (after : List ℕ) → distance f ≤ length before → Result (write-call f samples before) w after
     → (w ≡ Bytes (distance f)) × (after ≡ drop (first-place store) store ++ drop (distance f) before)
-read-then-write store b f mosaic samples read before after w h result = (
+read-then-write store b f samples read before w after h result = (
   result .answer .accepted yes,
-  result .buffer ∙ left qs (packet f samples ++ drop (distance f) before) before yes
-      ∙ ap (λ (l : List ℕ). l ++ drop (distance f) before) ((λ j. packet (fields j) (filled j)) ∙ packet-again store k b),
+  new-left (write-call f samples before) (result .leaves) yes
+      ∙ ap (λ (l : List ℕ). l ++ drop (distance f) before) ((λ j. packet (k .fields j) (k .samples j)) ∙ packet-again store (k .sound) b),
 )
   where
-    accepted : ask (mosaic-questions store (length mosaic)) ≡ 0
-    accepted = sym (read .answer .number)
-
-    k : SoundPacket store
-    k = filling store (length mosaic) 0 (sym accepted) refl .packet
-
-    fields : f ≡ fields-of store
-    fields = ap (fields-or f) (read .answer .accepted accepted)
-
-    filled : samples ≡ samples-of store
-    filled = read .buffer ∙ left (mosaic-questions store (length mosaic)) (samples-of store) mosaic accepted
+    k : Held store f samples
+    k = held store f samples read
 
     qs : List Question
     qs = write-questions f samples (length before)
 
     yes : ask qs ≡ 0
-    yes = (λ j. ask (write-questions (fields j) (filled j) (length before))) ∙ accepted-again store k b (length before) (subst (λ (g : Fields). distance g ≤ length before) fields h)
+    yes =
+        (λ j. ask (write-questions (k .fields j) (k .samples j) (length before)))
+        ∙ accepted-again store (k .sound) b (length before) (subst (λ (g : Fields). distance g ≤ length before) (k .fields) h)

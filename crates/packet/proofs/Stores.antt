@@ -15,7 +15,7 @@ use Rattle.questions.proofs.Asking.{AllYes, all-yes, all-yes-split, Shape, shap
 use Rattle.questions.proofs.Answering.{answer-no, answer-yes, left-no, left-yes}
 use Rattle.little_endian.specs.Bytes.{number-at}
 use Rattle.packet.specs.Packet.{distance, trailer-place, fields-of, distance-in, first-place, sample-part, samples-of}
-use Rattle.packet.specs.Calls.{fields-questions, distance-questions, store-questions, read-questions, filling-questions, mosaic-questions, number-of-read, ReadResult, part-read, MosaicResult}
+use Rattle.packet.specs.Calls.{fields-questions, distance-questions, store-questions, read-questions, filling-questions, mosaic-questions, number-of-read, ReadResult, part-read}
 use Rattle.packet.specs.declared.Fields.{Fields}
 use Rattle.packet.specs.declared.ReadPacket.the-variants.{Sound, Refused}
 
@@ -141,16 +141,3 @@ module _ (s : List ℕ) (n : ℕ) (e : n ≡ ask (read-questions s)) where
 
   pub part-yes : n ≡ 0 → (p : List ℕ) → p ≡ sample-part s → p ≡ part-read s
   part-yes z p q = q ∙ left-yes (read-questions s) (sample-part s) [] n e z
-
-module _ (s before : List ℕ) (n : ℕ) (e : n ≡ ask (mosaic-questions s (length before))) where
-  pub mosaic-no : (n ≡ 0 → ⊥) → MosaicResult s before (Refused n) before
-  mosaic-no z = record {
-    answer = answer-no number-of-read (mosaic-questions s (length before)) _ (Refused n) e z;
-    buffer = left-no (mosaic-questions s (length before)) (samples-of s) before n e z;
-  }
-
-  pub mosaic-yes : n ≡ 0 → (f : Fields) → f ≡ fields-of s → {after : List ℕ} → after ≡ samples-of s → MosaicResult s before (Sound f) after
-  mosaic-yes z f p q = record {
-    answer = answer-yes number-of-read (mosaic-questions s (length before)) _ (Sound f) n e z refl (ap (λ (g : Fields). Sound g) p);
-    buffer = q ∙ left-yes (mosaic-questions s (length before)) (samples-of s) before n e z;
-  }

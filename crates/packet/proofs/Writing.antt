@@ -11,13 +11,12 @@ use Rattle.integers.proofs.Lists.{sets-append}
 use Rattle.questions.specs.Questions.{ask, all-at-most}
 use Rattle.questions.specs.Settings.{ceiling-of}
 use Rattle.questions.proofs.Asking.{all-yes, all-yes-split}
-use Rattle.questions.proofs.Answering.{answer-no, answer-yes, left-no, left-yes}
 use Rattle.little_endian.specs.Bytes.{bytes-of, sample-bytes}
 use Rattle.little_endian.proofs.Samples.{length-sample-bytes}
 use Rattle.packet.specs.Packet.{distance, trailer, packet}
-use Rattle.packet.specs.Calls.{fields-questions, writing-questions, write-questions, number-of-written, WriteResult}
+use Rattle.packet.specs.Calls.{fields-questions, writing-questions, write-questions}
 use Rattle.packet.specs.declared.Fields.{Fields}
-use Rattle.packet.specs.declared.WrittenPacket.the-variants.{Bytes, Refused}
+use Rattle.packet.specs.declared.WrittenPacket.the-variants.{Bytes}
 use Rattle.packet.proofs.Stores.{Allowed, allowed}
 
 -- ---- one run of stores after another
@@ -66,25 +65,16 @@ pub length-packet : (f : Fields) (s : List ℕ) → length s ≡ f .width * f .h
 unfolding packet trailer bytes-of
 length-packet f s e = length-append (sample-bytes s) (trailer f) ∙ omega (arith, length-sample-bytes s)
 
-module _ (f : Fields) (s before : List ℕ) (n : ℕ) (e : n ≡ ask (write-questions f s (length before))) where
-  pub write-no : (n ≡ 0 → ⊥) → WriteResult f s before (Refused n) before
-  write-no z = record {
-    answer = answer-no number-of-written (write-questions f s (length before)) _ (Refused n) e z;
-    buffer = left-no (write-questions f s (length before)) (packet f s ++ drop (distance f) before) before n e z;
-  }
+-- the buffer: the samples' bytes first, and the trailer after them
+pub packet-laid : (f : Fields) (s before : List ℕ) (m : ℕ) → Writable f s (length before) → m ≡ 2 * length s → {x after : List ℕ} → x ≡ sets before 0 (sample-bytes s) → after ≡ sets x m (trailer f)
+    → after ≡ packet f s ++ drop (distance f) before
+unfolding packet
+packet-laid f s before m k i p q =
+    let end : 0 + length (packet f s) ≡ distance f = omega (arith, length-packet f s (k .given)) in
+    sets-then before 0 (sample-bytes s) (trailer f) m (omega (arith, length-sample-bytes s)) p q
+    ∙ sets-eq (packet f s) before 0 (omega (arith, k .fit))
+    ∙ ap (λ (j : ℕ). packet f s ++ drop j before) end
 
-  -- the samples' bytes first, and the trailer after them
-  pub write-yes : n ≡ 0 → (m : ℕ) → m ≡ 2 * length s → {x after : List ℕ} → x ≡ sets before 0 (sample-bytes s) → after ≡ sets x m (trailer f) → WriteResult f s before (Bytes (m + 12)) after
-  unfolding packet
-  write-yes z m i p q =
-      let k = writable f s (length before) n e z in
-      let long : length (packet f s) ≡ distance f = length-packet f s (k .given) in
-      let count : m + 12 ≡ distance f = omega (arith, k .given) in
-      let end : 0 + length (packet f s) ≡ distance f = omega (arith, long) in
-      record {
-        answer = answer-yes number-of-written (write-questions f s (length before)) _ (Bytes (m + 12)) n e z refl (ap (λ (j : ℕ). Bytes j) count);
-        buffer = sets-then before 0 (sample-bytes s) (trailer f) m (omega (arith, length-sample-bytes s)) p q
-            ∙ sets-eq (packet f s) before 0 (omega (arith, k .fit))
-            ∙ ap (λ (j : ℕ). packet f s ++ drop j before) end
-            ∙ left-yes (write-questions f s (length before)) (packet f s ++ drop (distance f) before) before n e z;
-      }
+-- and how many bytes
+pub bytes-written : (f : Fields) (s : List ℕ) {room : ℕ} (m : ℕ) → Writable f s room → m ≡ 2 * length s → Bytes (m + 12) ≡ Bytes (distance f)
+bytes-written f s m k i = ap (λ (j : ℕ). Bytes j) (let e = k .given in omega arith)

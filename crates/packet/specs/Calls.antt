@@ -1,13 +1,12 @@
 -- The calls on packets: what each asks, and what its answer and its buffer are then. Assumes nothing.
 use Prim.Native.Nat.{ℕ, _*_}
-use mathlib.Core.Path.{_≡_}
 use mathlib.Core.Bool.{cond}
 use mathlib.Core.List.{List, [], _∷_, _++_}
 use lib.Dec.{leb, eqb}
 use lib.ListN.{length, drop}
 use Rattle.questions.specs.Questions.{Question, question, frame-questions, samples-question}
 use Rattle.questions.specs.Settings.{ceiling-of}
-use Rattle.questions.specs.Answers.{Answered, if-accepted}
+use Rattle.questions.specs.Calls.{Answered, if-accepted, Call}
 use Rattle.packet.specs.Packet.{distance, packet, fields-of, distance-in, sample-part, samples-of, repeats}
 use Rattle.packet.specs.declared.Fields.{Fields}
 use Rattle.packet.specs.declared.ReadPacket.{ReadPacket}
@@ -79,23 +78,25 @@ ReadResult store r = Answered number-of-read (read-questions store) (read.Sound 
 abbrev pub part-read : List ℕ → List ℕ
 part-read store = if-accepted (read-questions store) (sample-part store) []
 
--- reading into a mosaic that held `before`: what the mosaic holds `after`
-abbrev pub MosaicLeaves : List ℕ → List ℕ → List ℕ → Type 0
-MosaicLeaves store before after = after ≡ if-accepted (mosaic-questions store (length before)) (samples-of store) before
+-- reading into a mosaic that held `before`: it holds the samples then
+abbrev pub mosaic-call : List ℕ → List ℕ → Call ReadPacket (List ℕ)
+mosaic-call store before = record {
+  questions = mosaic-questions store (length before);
+  number-of = number-of-read;
+  answer = read.Sound (fields-of store);
+  new = samples-of store;
+  old = before;
+}
 
--- and the answer r
-pub record MosaicResult (store before : List ℕ) (r : ReadPacket) (after : List ℕ) : Type 0 where
-  pub answer : Answered number-of-read (mosaic-questions store (length before)) (read.Sound (fields-of store)) r
-  pub buffer : MosaicLeaves store before after
-
--- the writer, given a buffer that held `before`: what the buffer holds `after`
-abbrev pub WriteLeaves : Fields → List ℕ → List ℕ → List ℕ → Type 0
-WriteLeaves f samples before after = after ≡ if-accepted (write-questions f samples (length before)) (packet f samples ++ drop (distance f) before) before
-
--- and its answer r
-pub record WriteResult (f : Fields) (samples before : List ℕ) (r : WrittenPacket) (after : List ℕ) : Type 0 where
-  pub answer : Answered number-of-written (write-questions f samples (length before)) (written.Bytes (distance f)) r
-  pub buffer : WriteLeaves f samples before after
+-- the writer, given a buffer that held `before`: its first bytes are the packet then
+abbrev pub write-call : Fields → List ℕ → List ℕ → Call WrittenPacket (List ℕ)
+write-call f samples before = record {
+  questions = write-questions f samples (length before);
+  number-of = number-of-written;
+  answer = written.Bytes (distance f);
+  new = packet f samples ++ drop (distance f) before;
+  old = before;
+}
 
 -- the repeat call
 abbrev pub RepeatResult : List ℕ → List ℕ → Repeat → Type 0

@@ -6,8 +6,9 @@ ghost use mathlib.Core.List.{[], _∷_};
 ghost use lib.ListN.{length};
 ghost use lib.Seq.{sets};
 ghost use Rattle.questions.specs.Questions.{ask, samples-question};
+ghost use Rattle.questions.specs.Calls.{Result};
 ghost use Rattle.packet.specs.Packet.{distance, trailer, trailer-place, fields-of, distance-in, sample-part, samples-of, same-shape};
-ghost use Rattle.packet.specs.Calls.{store-questions, read-questions, mosaic-questions, write-questions, repeat-questions, ReadResult, part-read, MosaicResult, WriteResult, RepeatResult};
+ghost use Rattle.packet.specs.Calls.{store-questions, read-questions, mosaic-questions, write-questions, repeat-questions, ReadResult, part-read, mosaic-call, write-call, RepeatResult};
 
 // Document 01's fields: what a packet's trailer says of its frame.
 pub struct Fields {
@@ -166,7 +167,7 @@ fn mosaic_refusal(store: &[u8], room: usize) -> u32
 
 // The packet's samples into a mosaic of exactly as many, and its fields.
 pub fn read_mosaic(store: &[u8], mosaic: &mut [u16]) -> ReadPacket
-    ensures { λ r. ⌜ MosaicResult (now (store .entry)) (now (mosaic .entry)) r (now (mosaic .exit)) ⌝ }
+    ensures { λ r. ⌜ Result (mosaic-call (now (store .entry)) (now (mosaic .entry))) r (now (mosaic .exit)) ⌝ }
 {
     let number = mosaic_refusal(store, mosaic.len());
     if number != 0 {
@@ -218,7 +219,7 @@ fn write_refusal(f: Fields, samples: &[u16], room: usize) -> u32
 
 // The writer: the packet into the first bytes of `out`; the rest stays.
 pub fn write_packet(f: Fields, samples: &[u16], out: &mut [u8]) -> WrittenPacket
-    ensures { λ r. ⌜ WriteResult f (now (samples .entry)) (now (out .entry)) r (now (out .exit)) ⌝ }
+    ensures { λ r. ⌜ Result (write-call f (now (samples .entry)) (now (out .entry))) r (now (out .exit)) ⌝ }
 {
     let refusal = write_refusal(f, samples, out.len());
     if refusal != 0 {

@@ -8,8 +8,8 @@ use native.Mathlib.Omega.{arith}
 use lib.Dec.{ltb}
 use lib.ListN.{length, getD, drop, set, length-append, drop-of-length-le}
 use lib.Seq.{sets, drop-cons}
-use Rattle.turns.specs.Frames.{Planes}
-use Rattle.printing.specs.Text.{digits, places, decimal, separator, rows-after, page, refusal, Put}
+use Rattle.planes.specs.Planes.{Planes}
+use Rattle.printing.specs.Text.{digits, digit-count, decimal, separator, rows-after, frame-text, refusal, Put}
 use Rattle.printing.proofs.Putting.{sets-last, put-then, put-none}
 
 -- ---- lengths
@@ -18,9 +18,9 @@ unfolding digits
 length-digits zero n = refl
 length-digits (suc k) n = omega (arith, length-append (digits k (n / 10)) ((48 + n % 10) ∷ []), length-digits k (n / 10))
 
-pub places-small : (n : ℕ) → places n ≤ 5
-unfolding places
-places-small n = pick (ltb n 10) (ltb n 100) (ltb n 1000) (ltb n 10000)
+pub digits-small : (n : ℕ) → digit-count n ≤ 5
+unfolding digit-count
+digits-small n = pick (ltb n 10) (ltb n 100) (ltb n 1000) (ltb n 10000)
   where
     pick : (a b c d : Bool) → cond a 1 (cond b 2 (cond c 3 (cond d 4 5))) ≤ 5
     pick true b c d = omega arith
@@ -31,7 +31,7 @@ places-small n = pick (ltb n 10) (ltb n 100) (ltb n 1000) (ltb n 10000)
 
 length-decimal : (n : ℕ) → length (decimal n) ≤ 5
 unfolding decimal
-length-decimal n = omega (arith, length-digits (places n) n, places-small n)
+length-decimal n = omega (arith, length-digits (digit-count n) n, digits-small n)
 
 length-rows : (w k : ℕ) (s : List ℕ) → length (rows-after w k s) ≤ 6 * length s
 unfolding rows-after
@@ -39,9 +39,9 @@ length-rows w k [] = omega arith
 length-rows w k (x ∷ xs) =
     omega (arith, length-append (decimal x) (separator w (suc k) ∷ rows-after w (suc k) xs), length-decimal x, length-rows w (suc k) xs)
 
-pub length-page : (w h : ℕ) (p : Planes (List ℕ)) → length (page w h p) ≤ 12 + 6 * (length (p .red) + length (p .green) + length (p .blue))
-unfolding page
-length-page w h p =
+pub length-text : (w h : ℕ) (p : Planes (List ℕ)) → length (frame-text w h p) ≤ 12 + 6 * (length (p .red) + length (p .green) + length (p .blue))
+unfolding frame-text
+length-text w h p =
     simp length-append
     (omega (arith, length-decimal w, length-decimal h, length-rows w 0 (p .red), length-rows w 0 (p .green), length-rows w 0 (p .blue)))
 
@@ -65,11 +65,11 @@ pub digits-none : (out : List ℕ) (at i rest : ℕ) → i ≡ 0 → out ≡ set
 unfolding digits
 digits-none out at i rest e = ap (λ (k : ℕ). sets out at (digits k rest)) (sym e)
 
-pub decimal-put : (at n k : ℕ) {before after : List ℕ} → k ≡ places n → after ≡ sets before at (digits k n) → Put at (decimal n) before (at + k) after
+pub decimal-put : (at n k : ℕ) {before after : List ℕ} → k ≡ digit-count n → after ≡ sets before at (digits k n) → Put at (decimal n) before (at + k) after
 unfolding decimal
 decimal-put at n k {before} e f = record {
   buffer = f ∙ ap (λ (m : ℕ). sets before at (digits m n)) e;
-  place = ap (λ (m : ℕ). at + m) (e ∙ sym (length-digits (places n) n));
+  place = ap (λ (m : ℕ). at + m) (e ∙ sym (length-digits (digit-count n) n));
 }
 
 -- ---- the loop that puts rows: one number more, and no number left

@@ -7,7 +7,7 @@ use mathlib.Core.List.{List, [], _∷_, _++_}
 use lib.Dec.{ltb, eqb}
 use lib.ListN.{length}
 use lib.Seq.{sets}
-use Rattle.turns.specs.Frames.{Planes}
+use Rattle.planes.specs.Planes.{Planes}
 
 abbrev pub newline : ℕ
 newline = 10
@@ -22,12 +22,12 @@ digits zero n = []
 digits (suc k) n = digits k (n / 10) ++ ((48 + n % 10) ∷ [])
 
 -- how many digits a number below 100,000 has
-unfoldable pub places : ℕ → ℕ
-places n = cond (ltb n 10) 1 (cond (ltb n 100) 2 (cond (ltb n 1000) 3 (cond (ltb n 10000) 4 5)))
+unfoldable pub digit-count : ℕ → ℕ
+digit-count n = cond (ltb n 10) 1 (cond (ltb n 100) 2 (cond (ltb n 1000) 3 (cond (ltb n 10000) 4 5)))
 
 -- such a number, without leading zeros
 unfoldable pub decimal : ℕ → List ℕ
-decimal n = digits (places n) n
+decimal n = digits (digit-count n) n
 
 -- ---- planes
 -- what follows the n-th number of a plane: a newline where a row of w ends, else a space
@@ -44,8 +44,8 @@ rows w samples = rows-after w 0 samples
 
 -- ---- what is printed
 -- width and height, then the rows of red, green and blue
-unfoldable pub page : ℕ → ℕ → Planes (List ℕ) → List ℕ
-page width height p =
+unfoldable pub frame-text : ℕ → ℕ → Planes (List ℕ) → List ℕ
+frame-text width height p =
     decimal width ++ (space ∷ decimal height ++ (newline ∷ rows width (p .red) ++ (rows width (p .green) ++ rows width (p .blue))))
 
 -- `refused`

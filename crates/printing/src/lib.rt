@@ -4,14 +4,14 @@ ghost use mathlib.Core.List.{[], _∷_};
 ghost use Prim.Native.Nat.{_+_, _*_, _≤_, _<_};
 ghost use lib.ListN.{length};
 ghost use lib.Seq.{sets};
-ghost use Rattle.turns.specs.Frames.{planes};
-ghost use Rattle.printing.specs.Text.{digits, places, decimal, separator, rows, page, refusal, Put, Written};
+ghost use Rattle.planes.specs.Planes.{planes};
+ghost use Rattle.printing.specs.Text.{digits, digit-count, decimal, separator, rows, frame-text, refusal, Put, Written};
 
 // ---- numbers
 
 // How many digits a number below 100,000 has.
-fn places(n: usize) -> usize
-    ensures { λ r. ⌜ r ≡ places n ⌝ }
+fn digit_count(n: usize) -> usize
+    ensures { λ r. ⌜ r ≡ digit-count n ⌝ }
 {
     if n < 10 {
         return 1;
@@ -44,7 +44,7 @@ fn put_decimal(out: &mut [u8], at: usize, n: usize) -> usize
     requires { ⌜ at + 5 ≤ length (now out) ⌝ }
     ensures { λ r. ⌜ Put at (decimal n) (now (out .entry)) r (now (out .exit)) × (r ≤ at + 5) ⌝ }
 {
-    let count = places(n);
+    let count = digit_count(n);
     put_digits(out, at, count, n);
     at + count
 }
@@ -100,8 +100,8 @@ fn put_rows(out: &mut [u8], from: usize, width: usize, samples: &[u16]) -> usize
 
 // ---- what is printed
 
-// The page of three planes, at the front of `out`; how many bytes. The rest of `out` stays.
-pub fn put_page(
+// Width and height, then the rows of red, green and blue, at the front of `out`; how many bytes. The rest of `out` stays.
+pub fn put_frame(
     out: &mut [u8],
     width: usize,
     height: usize,
@@ -111,7 +111,7 @@ pub fn put_page(
 ) -> usize
     requires { ⌜ 1 ≤ width ⌝ }
     requires { ⌜ 12 + 6 * (length (now red) + length (now green) + length (now blue)) ≤ length (now out) ⌝ }
-    ensures { λ r. ⌜ Written (page width height (planes (now (red .entry)) (now (green .entry)) (now (blue .entry)))) (now (out .entry)) r (now (out .exit)) ⌝ }
+    ensures { λ r. ⌜ Written (frame-text width height (planes (now (red .entry)) (now (green .entry)) (now (blue .entry)))) (now (out .entry)) r (now (out .exit)) ⌝ }
 {
     let after_width = put_decimal(out, 0, width);
     let at_height = put_byte(out, after_width, b' ');

@@ -9,7 +9,7 @@ use lib.ListN.{length}
 use borrow.Author.Tests.{le-leb, lt-leb, leb-true}
 use Rattle.questions.specs.Settings.{ceiling-of}
 use Rattle.questions.specs.Questions.{Question, ask, all-at-most}
-use Rattle.questions.specs.Answers.{Answered}
+use Rattle.questions.specs.Calls.{Answered}
 use Rattle.questions.proofs.Asking.{AllYes, all-yes, all-yes-split, ask-end, ask-no, ask-yes, ask-first, ask-later}
 use Rattle.questions.proofs.Answering.{answer-no, answer-yes}
 use Rattle.little_endian.proofs.Samples.{length-samples-in}

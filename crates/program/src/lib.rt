@@ -4,10 +4,10 @@ use packet::ReadPacket;
 ghost use mathlib.Core.Path.{_≡_};
 ghost use Prim.Native.Nat.{_*_};
 ghost use Rattle.questions.specs.Questions.{ask};
-ghost use Rattle.work_buffer.specs.Lent.{lent};
+ghost use Rattle.questions.specs.Lent.{lent};
 ghost use Rattle.packet.specs.Packet.{fields-of, samples-of};
 ghost use Rattle.printing.specs.Text.{Written};
-ghost use Rattle.program.specs.Program.{program-questions, finished-page, program-text, InputResult, Buffers};
+ghost use Rattle.program.specs.Program.{program-questions, finished-text, program-text, InputResult, Buffers};
 
 // The reader's answer. 17 refuses more than 4,096 bytes, before the reader, and more than 1,024 samples, after it.
 fn read_input(input: &[u8]) -> ReadPacket
@@ -37,7 +37,7 @@ pub fn program_refusal(input: &[u8]) -> u32
     }
 }
 
-// The page of an accepted input, at the front of `out`; how many bytes. The reader and the finishing call then accept too, so their
+// The text of an accepted input, at the front of `out`; how many bytes. The reader and the finishing call then accept too, so their
 // answers are not looked at.
 fn put_planes(
     input: &[u8],
@@ -52,7 +52,7 @@ fn put_planes(
     requires { ⌜ ask (program-questions (now input)) ≡ 0 ⌝ }
     requires { ⌜ f ≡ fields-of (now input) ⌝ }
     requires { ⌜ Buffers (f .width * f .height) (now mosaic) (lent (now red) (now green) (now blue) (now work)) (now out) ⌝ }
-    ensures { λ r. ⌜ Written (finished-page f (samples-of (now (input .entry)))) (now (out .entry)) r (now (out .exit)) ⌝ }
+    ensures { λ r. ⌜ Written (finished-text f (samples-of (now (input .entry)))) (now (out .entry)) r (now (out .exit)) ⌝ }
 {
     packet::read_mosaic(input, mosaic);
     let settings = f.settings;
@@ -67,14 +67,14 @@ fn put_planes(
         blue,
         work,
     );
-    printing::put_page(out, f.width, f.height, red, green, blue)
+    printing::put_frame(out, f.width, f.height, red, green, blue)
 }
 
 // The same, by way of buffers of its own, of which it lends just as much as the frame has samples.
 fn put_finished(input: &[u8], f: Fields, out: &mut [u8; 19456]) -> usize
     requires { ⌜ ask (program-questions (now input)) ≡ 0 ⌝ }
     requires { ⌜ f ≡ fields-of (now input) ⌝ }
-    ensures { λ r. ⌜ Written (finished-page f (samples-of (now (input .entry)))) (now (out .entry)) r (now (out .exit)) ⌝ }
+    ensures { λ r. ⌜ Written (finished-text f (samples-of (now (input .entry)))) (now (out .entry)) r (now (out .exit)) ⌝ }
 {
     let count = f.width * f.height;
     let mut mosaic = [0u16; 1024];
@@ -94,7 +94,7 @@ fn put_finished(input: &[u8], f: Fields, out: &mut [u8; 19456]) -> usize
     )
 }
 
-// The program's text, at the front of `out`; how many bytes. The rest of `out` stays. Its 19·1,024 bytes are enough: the page of
+// The program's text, at the front of `out`; how many bytes. The rest of `out` stays. Its 19·1,024 bytes are enough: the text of
 // 1,024 places takes at most 12 + 6·3·1,024.
 pub fn program_text(input: &[u8], out: &mut [u8; 19456]) -> usize
     ensures { λ r. ⌜ Written (program-text (now (input .entry))) (now (out .entry)) r (now (out .exit)) ⌝ }

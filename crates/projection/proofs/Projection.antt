@@ -8,7 +8,8 @@ use Rattle.integers.specs.Numbers.{clamp}
 use Rattle.integers.proofs.Products.{minus-one-*ℤ}
 use Rattle.integers.proofs.Linear.{linear, x₀, x₁, x₂, _⊕_, _⊖_}
 use Rattle.integers.proofs.Clamping.{clamp-moved}
-use Rattle.turns.proofs.Commuting.{Agree, Commutes, same, composed, paired, pointwise}
+use Rattle.planes.specs.Planes.{Agree}
+use Rattle.turns.proofs.Commuting.{Commutes, same, composed, paired, pointwise}
 use Rattle.filters.specs.Bank.{Bands, split, join, rescaled}
 use Rattle.filters.proofs.Linearity.{add-bands, times-bands, split-add, split-times, join-add, join-times}
 use Rattle.filters.proofs.Reconstruction.{reconstruct}

@@ -1,10 +1,12 @@
 // Inner: a frame's settings, what a call answers, and the checks that calls share. Each check answers the number of the first question
 // answered no, or 0.
 ghost use mathlib.Core.Path.{_≡_};
-ghost use Prim.Native.Nat.{max};
+ghost use Prim.Native.Nat.{max, _≤_};
+ghost use Rattle.planes.specs.Planes.{frame};
 ghost use Rattle.questions.specs.Settings.{rounds-of, ceiling-of};
 ghost use Rattle.questions.specs.Questions.{ask, all-at-most, size-questions, shape-questions, settings-questions, frame-questions};
-ghost use Rattle.questions.specs.Answers.{number-of-answer};
+ghost use Rattle.questions.specs.Lent.{rooms, buffer-questions, lent-questions};
+ghost use Rattle.questions.specs.Calls.{number-of-answer};
 
 // A frame's settings. Its width, height and layout are not among them: they turn, and settings do not.
 pub struct Settings {
@@ -121,4 +123,68 @@ pub fn samples_within(top: u16, samples: &[u16]) -> bool
         i += 1;
     }
     most <= top
+}
+
+// Questions 6, 7, 8 and 9, where a plane has `count` samples and `top` is the ceiling.
+fn buffers_refusal(
+    top: u16,
+    count: usize,
+    mosaic: &[u16],
+    red_room: usize,
+    green_room: usize,
+    blue_room: usize,
+    room: usize,
+) -> u32
+    requires { ⌜ count ≤ 4194304 ⌝ }
+    ensures { λ r. ⌜ r ≡ ask (buffer-questions top count (now (mosaic .entry)) (rooms «red_room» «green_room» «blue_room» room)) ⌝ }
+{
+    if mosaic.len() != count {
+        return 6;
+    }
+    if red_room != count {
+        return 7;
+    }
+    if green_room != count {
+        return 7;
+    }
+    if blue_room != count {
+        return 7;
+    }
+    let needed = 8 * count;
+    if room < needed {
+        return 8;
+    }
+    if !samples_within(top, mosaic) {
+        return 9;
+    }
+    0
+}
+
+// Questions 1 to 9.
+pub fn lent_refusal(
+    width: usize,
+    height: usize,
+    layout: u8,
+    settings: Settings,
+    mosaic: &[u16],
+    red_room: usize,
+    green_room: usize,
+    blue_room: usize,
+    room: usize,
+) -> u32
+    ensures { λ r. ⌜ r ≡ ask (lent-questions (frame width height layout (now (mosaic .entry))) settings (rooms «red_room» «green_room» «blue_room» room)) ⌝ }
+{
+    let number = frame(width, height, layout, settings);
+    if number != 0 {
+        return number;
+    }
+    buffers_refusal(
+        settings.ceiling(),
+        width * height,
+        mosaic,
+        red_room,
+        green_room,
+        blue_room,
+        room,
+    )
 }

@@ -1,28 +1,25 @@
 -- The laws of the rounds call: what an accepted call knows, and what it leaves. Assumes nothing.
-use mathlib.Core.Path.{_≡_, refl, sym, _∙_, ap}
+use mathlib.Core.Path.{_≡_, sym, _∙_, ap}
 use mathlib.Core.List.{List, _++_}
 use Prim.Native.Nat.{ℕ, _*_, _-_, _≤_}
 use native.Mathlib.Omega.{arith}
 use lib.IntN.{ℤ}
 use lib.ListN.{length}
 use borrow.Author.Tests.{eqb-true, leb-true}
+use Rattle.planes.specs.Layout.{red-row, red-column}
+use Rattle.planes.specs.Planes.{Frame, Planes, planes, listing, listings, plane-of}
+use Rattle.planes.proofs.Planes.{listing-plane-of, listing-agree}
 use Rattle.questions.specs.Settings.{ceiling-of, rounds-of}
 use Rattle.questions.specs.Questions.{ask, shape-questions, settings-questions, frame-questions}
 use Rattle.questions.specs.declared.Settings.{Settings}
+use Rattle.questions.specs.Lent.{Lent, lent, rooms-of, buffer-questions}
 use Rattle.questions.proofs.Asking.{AllYes, all-yes, all-yes-split, shape-is}
-use Rattle.questions.proofs.Answering.{answer-no, answer-yes, left-no, left-yes}
-use Rattle.turns.specs.Layout.{red-row, red-column}
-use Rattle.turns.specs.Frames.{Frame, Planes, planes, listing, listings, plane-of}
-use Rattle.turns.proofs.Frames.{listing-plane-of, listing-agree}
-use Rattle.work_buffer.specs.Places.{Workable}
-use Rattle.work_buffer.specs.Lent.{Lent, lent, rooms-of, buffer-questions}
-use Rattle.work_buffer.specs.Buffer.{with-plane, zeroed}
+use Rattle.work_buffer.specs.Buffer.{with-plane, zeroed, Workable}
 use Rattle.work_buffer.proofs.Buffer.{length-with-plane, zeroed-with-plane}
 use Rattle.rounds.specs.Rounds.{rewritten, rounds}
 use Rattle.rounds.specs.Colours.{round-of}
-use Rattle.rounds.specs.Calls.{planes-questions, rounds-questions, number-of-answer, rounds-lists, with-rounds, RoundsResult}
+use Rattle.rounds.specs.Calls.{planes-questions, rounds-questions, rounds-lists, with-rounds}
 use Rattle.rounds.specs.declared.Colour.{Colour}
-use Rattle.rounds.specs.declared.RoundsAnswer.the-variants.{Accepted, Refused}
 use Rattle.rounds.proofs.Repeated.{no-round}
 
 -- ---- what an accepted call knows
@@ -107,17 +104,3 @@ no-rounds f s none given p q = λ i. planes (same (red-row (f .layout)) (red-col
     same row column plane e =
         ap (λ (n : ℕ). listing (f .width) (f .height) (rewritten n (round-of (colour-in f s row column) (ceiling-of s) (f .samples) (given .green)) (plane-of 0 (f .width) plane))) none
         ∙ listing-agree (f .width) (f .height) (λ r c hr hc. no-round _ (plane-of 0 (f .width) plane) r c) ∙ listing-plane-of 0 (f .width) (f .height) plane e
-
--- refused and accepted
-module _ (f : Frame) (s : Settings) (before : Lent) (n : ℕ) (e : n ≡ ask (rounds-questions f s before)) where
-  pub rounds-no : (n ≡ 0 → ⊥) → RoundsResult f s before (Refused n) before
-  rounds-no z = record {
-    answer = answer-no number-of-answer (rounds-questions f s before) Accepted (Refused n) e z;
-    leaves = left-no (rounds-questions f s before) (with-rounds f s before) before n e z;
-  }
-
-  pub rounds-yes : n ≡ 0 → {after : Lent} → after ≡ with-rounds f s before → RoundsResult f s before Accepted after
-  rounds-yes z p = record {
-    answer = answer-yes number-of-answer (rounds-questions f s before) Accepted Accepted n e z refl refl;
-    leaves = p ∙ left-yes (rounds-questions f s before) (with-rounds f s before) before n e z;
-  }

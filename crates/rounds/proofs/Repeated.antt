@@ -7,11 +7,11 @@ use lib.Dec.{eqb}
 use lib.IntN.{ℤ, pos}
 use Rattle.integers.specs.Numbers.{rounded}
 use Rattle.integers.proofs.Tests.{cond-cases}
-use Rattle.turns.proofs.Commuting.{Agree}
+use Rattle.planes.specs.Planes.{Agree}
 use Rattle.projection.specs.Projection.{projected}
 use Rattle.projection.proofs.Projection.{projected-agrees}
 use Rattle.work_buffer.proofs.Buffer.{SampleTo, clipped-sample}
-use Rattle.rounds.specs.Rounds.{Round, kept, put-observed, round, after-rounds, rewritten}
+use Rattle.rounds.specs.Rounds.{Round, kept, put-observed, round, working-plane, rewritten}
 
 -- what is kept is a sample
 pub kept-sample : (top : ℕ) (s : ℤ) → SampleTo top (kept top s)
@@ -42,28 +42,28 @@ module _ (k : Round) where
       ∙ sym (round-projected own' r c)
 
   -- so they do after n
-  pub after-rounds-agree : (n : ℕ) (own own' : ℕ → ℕ → ℤ) → Agree (k .width) (k .height) own own' → Agree (k .width) (k .height) (after-rounds n k own) (after-rounds n k own')
-  unfolding after-rounds
-  after-rounds-agree zero own own' e = e
-  after-rounds-agree (suc n) own own' e = round-agrees (after-rounds n k own) (after-rounds n k own') (after-rounds-agree n own own' e)
+  pub working-plane-agree : (n : ℕ) (own own' : ℕ → ℕ → ℤ) → Agree (k .width) (k .height) own own' → Agree (k .width) (k .height) (working-plane n k own) (working-plane n k own')
+  unfolding working-plane
+  working-plane-agree zero own own' e = e
+  working-plane-agree (suc n) own own' e = round-agrees (working-plane n k own) (working-plane n k own') (working-plane-agree n own own' e)
 
   -- ---- what holds of a working plane
   -- What holds of all that is kept, of the observed samples and of the working plane at first, holds of it after any number of rounds.
   module _ (P : ℤ → Type 0) (own : ℕ → ℕ → ℤ) (keeps : (s : ℤ) → P (kept (k .top) s)) (observed : (r c : ℕ) → r < k .height → c < k .width → P (pos (k .mosaic r c)))
       (first : (r c : ℕ) → r < k .height → c < k .width → P (own r c)) where
-    pub after-rounds-hold : (n r c : ℕ) → r < k .height → c < k .width → P (after-rounds n k own r c)
-    unfolding after-rounds
-    after-rounds-hold zero r c hr hc = first r c hr hc
-    after-rounds-hold (suc n) r c hr hc = unfold round put-observed in cond-cases (eqb (r % 2) (k .row) && eqb (c % 2) (k .column)) _ _ P (λ t. observed r c hr hc) (λ t. keeps _)
+    pub working-plane-hold : (n r c : ℕ) → r < k .height → c < k .width → P (working-plane n k own r c)
+    unfolding working-plane
+    working-plane-hold zero r c hr hc = first r c hr hc
+    working-plane-hold (suc n) r c hr hc = unfold round put-observed in cond-cases (eqb (r % 2) (k .row) && eqb (c % 2) (k .column)) _ _ P (λ t. observed r c hr hc) (λ t. keeps _)
 
   -- red and blue stay within the ceiling
   pub rewritten-bound : (n : ℕ) (plane : ℕ → ℕ → ℕ) → ((r c : ℕ) → r < k .height → c < k .width → k .mosaic r c ≤ k .top) → ((r c : ℕ) → r < k .height → c < k .width → plane r c ≤ k .top)
       → (r c : ℕ) → r < k .height → c < k .width → rewritten n k plane r c ≤ k .top
   unfolding rewritten
   rewritten-bound n plane m p r c hr hc =
-      after-rounds-hold (SampleTo (k .top)) _ (kept-sample (k .top)) (λ r c hr hc. (tt, m r c hr hc)) (λ r c hr hc. (tt, p r c hr hc)) n r c hr hc .1
+      working-plane-hold (SampleTo (k .top)) _ (kept-sample (k .top)) (λ r c hr hc. (tt, m r c hr hc)) (λ r c hr hc. (tt, p r c hr hc)) n r c hr hc .1
 
   -- with no round no sample changes
   pub no-round : (plane : ℕ → ℕ → ℕ) (r c : ℕ) → rewritten 0 k plane r c ≡ plane r c
-  unfolding rewritten after-rounds
+  unfolding rewritten working-plane
   no-round plane r c = refl

@@ -4,18 +4,18 @@ use mathlib.Core.Bool.{Bool, true, false, cond, not, _&&_}
 use Prim.Native.Nat.{ℕ, zero, suc, _-_, _%_}
 use lib.Dec.{eqb}
 use lib.IntN.{ℤ, pos, natAbs}
+use Rattle.planes.specs.Layout.{red-row, red-column, on-red-row, on-red-column}
+use Rattle.planes.specs.Planes.{Planes, planes}
+use Rattle.planes.proofs.Layouts.{row-lt, column-lt}
+use Rattle.planes.proofs.Places.{other-parity}
 use Rattle.questions.specs.Settings.{ceiling-of, rounds-of}
 use Rattle.questions.specs.declared.Settings.{Settings}
-use Rattle.turns.specs.Layout.{red-row, red-column, on-red-row, on-red-column}
-use Rattle.turns.specs.Frames.{Planes, planes}
 use Rattle.turns.specs.Operations.{Operation}
 use Rattle.turns.specs.Pictures.{Picture, turned, _≈_}
-use Rattle.turns.proofs.Pictures.{row-lt, column-lt}
 use Rattle.turns.proofs.Commuting.{Commutes, same, composed, paired, pointwise, by-parities, commutes-by, apply, apply-turned}
 use Rattle.projection.specs.Projection.{projected}
 use Rattle.projection.proofs.Projection.{projected-commutes}
-use Rattle.work_buffer.proofs.Places.{other-parity}
-use Rattle.rounds.specs.Rounds.{Round, limit-of, put-observed, round, after-rounds, rewritten, rounds}
+use Rattle.rounds.specs.Rounds.{Round, limit-of, put-observed, round, working-plane, rewritten, rounds}
 use Rattle.rounds.proofs.Repeated.{round-projected}
 
 -- ---- a colour
@@ -78,15 +78,15 @@ module _ (top : ℕ) (limit : ℤ) (k : Coloured) where
 
   -- n
   abbrev pub n-rounds : ℕ → Operation (ℕ × ℕ × ℤ) ℤ
-  n-rounds n w h l p = after-rounds n (round-in w h l (λ i j. p i j .0) (λ i j. p i j .1)) (λ i j. p i j .2)
+  n-rounds n w h l p = working-plane n (round-in w h l (λ i j. p i j .0) (λ i j. p i j .1)) (λ i j. p i j .2)
 
-  pub after-rounds-commute : (n : ℕ) → Commutes same same (n-rounds n)
-  unfolding after-rounds
-  after-rounds-commute zero = pointwise {A = ℕ × ℕ × ℤ} same same (λ x. x .2) (λ x. refl)
-  after-rounds-commute (suc n) =
+  pub working-plane-commute : (n : ℕ) → Commutes same same (n-rounds n)
+  unfolding working-plane
+  working-plane-commute zero = pointwise {A = ℕ × ℕ × ℤ} same same (λ x. x .2) (λ x. refl)
+  working-plane-commute (suc n) =
       composed {F = λ w h l p r c. (p r c .0, p r c .1, n-rounds n w h l p r c)} {G = one-round}
       (composed {B = (ℕ × ℕ) × ℤ} {F = λ w h l p r c. ((p r c .0, p r c .1), n-rounds n w h l p r c)}
-      (paired (pointwise {A = ℕ × ℕ × ℤ} {B = ℕ × ℕ} same same (λ x. (x .0, x .1)) (λ x. refl)) (after-rounds-commute n))
+      (paired (pointwise {A = ℕ × ℕ × ℤ} {B = ℕ × ℕ} same same (λ x. (x .0, x .1)) (λ x. refl)) (working-plane-commute n))
       (pointwise {B = ℕ × ℕ × ℤ} same same (λ x. (x .0 .0, x .0 .1, x .1)) (λ x. refl)))
       round-commutes
 
@@ -96,7 +96,7 @@ module _ (top : ℕ) (limit : ℤ) (k : Coloured) where
   unfolding rewritten
   rewritten-commutes n plane =
       composed (pointwise {A = ℕ × Planes ℕ} {B = ℕ × ℕ × ℤ} same same (λ x. (x .0, x .1 .green, pos (plane (x .1)))) (λ x. refl))
-      (composed (after-rounds-commute n) (pointwise same same natAbs (λ z. refl)))
+      (composed (working-plane-commute n) (pointwise same same natAbs (λ z. refl)))
 
 -- ---- the three planes
 -- the rounds see only what is inside, and commute with every turn

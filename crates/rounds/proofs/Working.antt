@@ -12,22 +12,21 @@ use lib.ListN.{getD, length}
 use Rattle.integers.specs.Lists.{tabulate, overwrite}
 use Rattle.integers.proofs.Bounds.{abs-sub}
 use Rattle.integers.proofs.Lists.{tabulate-cong}
-use Rattle.turns.specs.Frames.{listing, plane-of}
-use Rattle.turns.proofs.Commuting.{Agree}
-use Rattle.turns.proofs.Frames.{place-inside}
+use Rattle.planes.specs.Planes.{listing, plane-of, Agree}
+use Rattle.planes.specs.Lists.{value, sample, put}
+use Rattle.planes.specs.Places.{half, place}
+use Rattle.planes.proofs.Planes.{place-inside}
 use Rattle.filters.specs.Bank.{Distance}
-use Rattle.lines.specs.Lines.{value}
 use Rattle.projection.specs.Projection.{projected}
 use Rattle.projection.proofs.Projection.{projected-agrees}
 use Rattle.sweep.specs.Planes.{own-plane, guide-plane, Projectable, with-projected}
 use Rattle.sweep.specs.declared.Given.{Given}
-use Rattle.work_buffer.specs.Places.{places, place, sample, put, Narrow, Workable}
-use Rattle.work_buffer.specs.Buffer.{with-plane}
+use Rattle.work_buffer.specs.Buffer.{with-plane, Narrow, Workable}
 use Rattle.work_buffer.proofs.Buffer.{length-with-plane, with-plane-at, plane-with, with-plane-agree, with-plane-again, with-own-plane, loaded, put-samples, SampleTo, narrow-plane}
-use Rattle.rounds.specs.Rounds.{Round, put-observed, round, after-rounds, rewritten}
+use Rattle.rounds.specs.Rounds.{Round, put-observed, round, working-plane, rewritten}
 use Rattle.rounds.specs.Colours.{round-of}
 use Rattle.rounds.specs.declared.Colour.{Colour}
-use Rattle.rounds.proofs.Repeated.{projected-on-green, round-projected, round-agrees, after-rounds-agree, after-rounds-hold, kept-sample}
+use Rattle.rounds.proofs.Repeated.{projected-on-green, round-projected, round-agrees, working-plane-agree, working-plane-hold, kept-sample}
 
 -- ---- what the projection is given
 abbrev pub given : ℕ → ℕ → ℤ → Given
@@ -85,7 +84,7 @@ module _ (k : Colour) (top : ℕ) (mosaic green : List ℕ) (work : List ℤ) (r
 
   -- a round: projected, and the observed samples put in
   pub round-laid : k .row < 2 → k .column < 2 → {first second : List ℤ} → first ≡ with-projected G (pos 0) (pos top) work green
-      → let at = place (k .row * w + k .column) (2 * w) (places w (k .column)) in second ≡ put first (places w (k .column) * places h (k .row)) at (λ i. sample mosaic (at i))
+      → let at = place (k .row * w + k .column) (2 * w) (half w (k .column)) in second ≡ put first (half w (k .column) * half h (k .row)) at (λ i. sample mosaic (at i))
       → second ≡ with-plane w h (round K Own) work
   round-laid ha hb {first} {second} p q =
       put-samples w h (k .row) (k .column) ha hb mosaic first long q
@@ -110,17 +109,17 @@ module _ (k : Colour) (top : ℕ) (mosaic green : List ℕ) (work : List ℤ) (r
 
   -- ---- n rounds of it
   abbrev After : ℕ → ℕ → ℕ → ℤ
-  After n = after-rounds n K Own
+  After n = working-plane n K Own
 
   -- none
   pub none-laid : work ≡ with-plane w h (After 0) work
-  unfolding after-rounds
+  unfolding working-plane
   none-laid = with-own-plane w h work room
 
   -- one more
   pub more-laid : (n : ℕ) {before after : List ℤ} → before ≡ with-plane w h (After n) work → after ≡ with-plane w h (round K (plane-of (pos 0) w before)) before
       → after ≡ with-plane w h (After (n + 1)) work
-  unfolding after-rounds
+  unfolding working-plane
   more-laid n {before} {after} p q =
       q ∙ ap (with-plane w h (round K (plane-of (pos 0) w before))) p
       ∙ with-plane-again w h work room (After n) (round K (plane-of (pos 0) w before))
@@ -134,7 +133,7 @@ module _ (k : Colour) (top : ℕ) (mosaic green : List ℕ) (work : List ℤ) (r
   pub after-narrow : (n : ℕ) {l : List ℤ} → l ≡ with-plane w h (After n) work → Narrow work 0 (w * h) → top ≤ 65535 → ((i : ℕ) → getD mosaic i 0 ≤ 65535) → Narrow l 0 (w * h)
   after-narrow n p narrow few sm =
       narrow-plane w h work room (After n) p
-      (after-rounds-hold K (SampleTo 65535) Own (λ s. let b = kept-sample top s in (b .0, omega (arith, b .1, few))) (λ r c hr hc. (tt, observed r c)) first n)
+      (working-plane-hold K (SampleTo 65535) Own (λ s. let b = kept-sample top s in (b .0, omega (arith, b .1, few))) (λ r c hr hc. (tt, observed r c)) first n)
     where
       observed : (r c : ℕ) → plane-of 0 w mosaic r c ≤ 65535
       observed r c = unfold plane-of in sm (r * w + c)
@@ -142,7 +141,7 @@ module _ (k : Colour) (top : ℕ) (mosaic green : List ℕ) (work : List ℤ) (r
       first : (r c : ℕ) → r < h → c < w → SampleTo 65535 (plane-of (pos 0) w work r c)
       first r c hr hc = unfold plane-of in subst (λ (n : ℕ). SampleTo 65535 (value work n)) (zero-add (r * w + c)) (narrow .sign (r * w + c) (place-inside hr hc), narrow .small (r * w + c) (place-inside hr hc))
 
--- ---- a colour's plane: loaded, through n rounds, and stored
+-- ---- a colour's plane: loaded, through n rounds, and unloaded
 module _ (k : Colour) (top : ℕ) (mosaic green plane : List ℕ) (work : List ℤ) (room : k .width * k .height ≤ length work) (long : length plane ≡ k .width * k .height)
     {first : List ℤ} (p : first ≡ overwrite work 0 (length plane) (sample plane)) where
   abbrev Samples : ℕ → ℕ → ℤ
@@ -164,27 +163,27 @@ module _ (k : Colour) (top : ℕ) (mosaic green plane : List ℕ) (work : List �
   pub first-workable : Workable (k .width) (k .height) mosaic green (length work) → Workable (k .width) (k .height) mosaic green (length first)
   first-workable = subst (Workable (k .width) (k .height) mosaic green) (sym first-long)
 
-  module _ (n : ℕ) {second : List ℤ} (q : second ≡ with-plane (k .width) (k .height) (after-rounds n (round-of k top mosaic green) (plane-of (pos 0) (k .width) first)) first) where
+  module _ (n : ℕ) {second : List ℤ} (q : second ≡ with-plane (k .width) (k .height) (working-plane n (round-of k top mosaic green) (plane-of (pos 0) (k .width) first)) first) where
     -- and at last
     pub last-narrow : top ≤ 65535 → ((i : ℕ) → getD plane i 0 ≤ 65535) → ((i : ℕ) → getD mosaic i 0 ≤ 65535) → Narrow second 0 (length plane)
     last-narrow few sp sm = subst (Narrow second 0) (sym long) (after-narrow k top mosaic green first (omega (arith, room, first-long)) n q (first-narrow sp) few sm)
 
     abbrev Last : ℕ → ℕ → ℤ
-    Last = after-rounds n (round-of k top mosaic green) Samples
+    Last = working-plane n (round-of k top mosaic green) Samples
 
     pub last-laid : second ≡ with-plane (k .width) (k .height) Last work
     last-laid =
-        q ∙ with-plane-agree (k .width) (k .height) first (omega (arith, room, first-long)) (after-rounds-agree (round-of k top mosaic green) n (plane-of (pos 0) (k .width) first) Samples held)
+        q ∙ with-plane-agree (k .width) (k .height) first (omega (arith, room, first-long)) (working-plane-agree (round-of k top mosaic green) n (plane-of (pos 0) (k .width) first) Samples held)
         ∙ ap (with-plane (k .width) (k .height) Last) first-laid
         ∙ with-plane-again (k .width) (k .height) work room Samples Last
       where
         held : Agree (k .width) (k .height) (plane-of (pos 0) (k .width) first) Samples
         held r c hr hc = ap (λ (l : List ℤ). plane-of (pos 0) (k .width) l r c) first-laid ∙ plane-with (k .width) (k .height) work room Samples r c hr hc
 
-    -- stored as samples
-    pub stored : {out : List ℕ} → out ≡ tabulate (length plane) (λ i. natAbs (value second i))
+    -- unloaded as samples
+    pub unloaded : {out : List ℕ} → out ≡ tabulate (length plane) (λ i. natAbs (value second i))
         → out ≡ listing (k .width) (k .height) (rewritten n (round-of k top mosaic green) (plane-of 0 (k .width) plane))
     unfolding listing rewritten
-    stored e =
+    unloaded e =
         e ∙ ap (λ (m : ℕ). tabulate m (λ i. natAbs (value second i))) long
         ∙ tabulate-cong (k .width * k .height) _ _ (λ i hi. ap natAbs (ap (λ (l : List ℤ). value l i) last-laid ∙ with-plane-at (k .width) (k .height) work room Last i hi))

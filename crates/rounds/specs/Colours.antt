@@ -1,7 +1,7 @@
 -- A colour's rounds as the inner functions take them: its places by value, the ceiling, and mosaic and green in lists. Assumes nothing.
 use mathlib.Core.List.{List}
 use Prim.Native.Nat.{ℕ}
-use Rattle.turns.specs.Frames.{plane-of}
+use Rattle.planes.specs.Planes.{plane-of}
 use Rattle.rounds.specs.Rounds.{Round, limit-of}
 use Rattle.rounds.specs.declared.Colour.{Colour}
 

@@ -1,14 +1,14 @@
 -- Document 01, "Rounds". Assumes nothing.
 use Prim.Native.Nat.{ℕ, zero, suc, _*_, _-_}
 use lib.IntN.{ℤ, pos, natAbs}
+use Rattle.planes.specs.Layout.{red-row, red-column}
+use Rattle.planes.specs.Planes.{Planes, planes}
+use Rattle.planes.specs.Places.{put-at-places}
 use Rattle.questions.specs.Settings.{ceiling-of, rounds-of}
 use Rattle.questions.specs.declared.Settings.{Settings}
-use Rattle.turns.specs.Layout.{red-row, red-column}
-use Rattle.turns.specs.Frames.{Planes, planes}
 use Rattle.turns.specs.Operations.{Operation}
 use Rattle.filters.specs.Bank.{rescaled}
 use Rattle.projection.specs.Projection.{held-sum}
-use Rattle.work_buffer.specs.Places.{put-at-places}
 
 -- ---- a round of one colour's working plane, with green fixed
 -- what it is given beside that plane: the ceiling; how far a value of bands 2, 3 and 4 may be from green's; the frame's sizes; the parities
@@ -39,15 +39,15 @@ put-observed k plane = put-at-places (k .row) (k .column) (λ r c. pos (k .mosai
 unfoldable pub round : Round → (ℕ → ℕ → ℤ) → ℕ → ℕ → ℤ
 round k own = put-observed k (λ r c. kept (k .top) (held-sum (k .limit) 1 (k .width) (k .height) (λ i j. pos (k .green i j)) own r c))
 
--- n rounds, one after another
-unfoldable pub after-rounds : ℕ → Round → (ℕ → ℕ → ℤ) → ℕ → ℕ → ℤ
-after-rounds zero k own = own
-after-rounds (suc n) k own = round k (after-rounds n k own)
+-- the working plane after n rounds, one after another
+unfoldable pub working-plane : ℕ → Round → (ℕ → ℕ → ℤ) → ℕ → ℕ → ℤ
+working-plane zero k own = own
+working-plane (suc n) k own = round k (working-plane n k own)
 
 -- ---- the three planes
 -- a colour's plane of samples after n rounds
 unfoldable pub rewritten : ℕ → Round → (ℕ → ℕ → ℕ) → ℕ → ℕ → ℕ
-rewritten n k plane r c = natAbs (after-rounds n k (λ i j. pos (plane i j)) r c)
+rewritten n k plane r c = natAbs (working-plane n k (λ i j. pos (plane i j)) r c)
 
 -- Red and blue are rewritten, and green stays. A place has its mosaic sample, and its samples in the three given planes.
 unfoldable pub rounds : Settings → Operation (ℕ × Planes ℕ) (Planes ℕ)

@@ -1,37 +1,21 @@
 // Document 01's rounds.
+use questions::Answer;
 use questions::Settings;
 ghost use mathlib.Core.Path.{_≡_};
 ghost use Prim.Native.Nat.{_+_, _*_, _≤_, _<_};
 ghost use lib.IntN.{pos, natAbs};
 ghost use lib.ListN.{length};
 ghost use Rattle.integers.specs.Lists.{tabulate, overwrite};
+ghost use Rattle.planes.specs.Planes.{frame, planes, listing, plane-of};
+ghost use Rattle.planes.specs.Lists.{value, sample, put, InRow, InPlane};
+ghost use Rattle.planes.specs.Places.{place};
 ghost use Rattle.questions.specs.Questions.{ask};
-ghost use Rattle.turns.specs.Frames.{frame, planes, listing, plane-of};
-ghost use Rattle.lines.specs.Lines.{value};
-ghost use Rattle.work_buffer.specs.Places.{place, sample, put, Seconds, SecondRows, Narrow, Workable};
-ghost use Rattle.work_buffer.specs.Buffer.{with-plane};
-ghost use Rattle.work_buffer.specs.Lent.{lent};
-ghost use Rattle.rounds.specs.Rounds.{limit-of, round, after-rounds, rewritten};
+ghost use Rattle.questions.specs.Calls.{Result};
+ghost use Rattle.questions.specs.Lent.{lent};
+ghost use Rattle.work_buffer.specs.Buffer.{with-plane, Narrow, Workable};
+ghost use Rattle.rounds.specs.Rounds.{limit-of, round, working-plane, rewritten};
 ghost use Rattle.rounds.specs.Colours.{round-of};
-ghost use Rattle.rounds.specs.Calls.{planes-questions, rounds-questions, number-of-answer, with-rounds, RoundsResult};
-
-// What the rounds call answers.
-pub enum RoundsAnswer {
-    Accepted,
-    Refused(u32),
-}
-
-impl RoundsAnswer {
-    // Document 01's number of a refusal, or 0.
-    pub fn number(self) -> u32
-        ensures { λ r. ⌜ r ≡ number-of-answer self ⌝ }
-    {
-        match self {
-            RoundsAnswer::Accepted => 0,
-            RoundsAnswer::Refused(number) => number,
-        }
-    }
-}
+ghost use Rattle.rounds.specs.Calls.{planes-questions, rounds-questions, with-rounds, rounds-call};
 
 // A colour's places, by the frame's sizes and the parities of the colour's rows and columns; and the threshold. The ceiling goes beside it, a
 // number that the compiler then clips with.
@@ -56,7 +40,7 @@ fn load(plane: &[u16], work: &mut [i32])
 }
 
 // The working plane back into a plane of samples.
-fn store(work: &[i32], plane: &mut [u16])
+fn unload(work: &[i32], plane: &mut [u16])
     requires { ⌜ Narrow (now work) 0 (length (now plane)) ⌝ }
     ensures { λ _. ⌜ now (plane .exit) ≡ tabulate (length (now (plane .entry))) (λ k. natAbs (value (now (work .entry)) k)) ⌝ }
 {
@@ -69,7 +53,7 @@ fn store(work: &[i32], plane: &mut [u16])
 
 // Every second sample of a row, n of them from `from` on, into the same places of the working plane.
 fn observe_row(mosaic: &[u16], from: usize, n: usize, work: &mut [i32])
-    requires { ⌜ Seconds (now mosaic) from n × (length (now mosaic) ≤ length (now work)) ⌝ }
+    requires { ⌜ InRow (now mosaic) n from 2 × (length (now mosaic) ≤ length (now work)) ⌝ }
     ensures { λ _. ⌜ now (work .exit) ≡ put (now (work .entry)) n (λ k. from + 2 * k) (λ k. sample (now (mosaic .entry)) (from + 2 * k)) ⌝ }
 {
     let mut k = 0;
@@ -82,7 +66,7 @@ fn observe_row(mosaic: &[u16], from: usize, n: usize, work: &mut [i32])
 
 // The observed samples of a colour into its working plane. Its rows stand `down` apart.
 fn observe(mosaic: &[u16], from: usize, down: usize, columns: usize, rows: usize, work: &mut [i32])
-    requires { ⌜ SecondRows (now mosaic) from down columns rows × (length (now mosaic) ≤ length (now work)) ⌝ }
+    requires { ⌜ InPlane (now mosaic) from columns rows down 2 × (length (now mosaic) ≤ length (now work)) ⌝ }
     ensures { λ _. ⌜ now (work .exit) ≡ put (now (work .entry)) (columns * rows) (place from down columns) (λ k. sample (now (mosaic .entry)) (place from down columns k)) ⌝ }
 {
     let mut i = 0;
@@ -127,7 +111,7 @@ fn round(colour: Colour, top: u16, mosaic: &[u16], green: &[u16], work: &mut [i3
 // So many rounds of it.
 fn run(colour: Colour, top: u16, rounds: u8, mosaic: &[u16], green: &[u16], work: &mut [i32])
     requires { ⌜ Workable (colour .width) (colour .height) (now mosaic) (now green) (length (now work)) × (colour .row < 2) × (colour .column < 2) × Narrow (now work) 0 (colour .width * colour .height) ⌝ }
-    ensures { λ _. ⌜ now (work .exit) ≡ with-plane (colour .width) (colour .height) (after-rounds rounds (round-of colour top (now (mosaic .entry)) (now (green .entry))) (plane-of (pos 0) (colour .width) (now (work .entry)))) (now (work .entry)) ⌝ }
+    ensures { λ _. ⌜ now (work .exit) ≡ with-plane (colour .width) (colour .height) (working-plane rounds (round-of colour top (now (mosaic .entry)) (now (green .entry))) (plane-of (pos 0) (colour .width) (now (work .entry)))) (now (work .entry)) ⌝ }
 {
     let mut n = 0;
     while n < rounds {
@@ -136,7 +120,7 @@ fn run(colour: Colour, top: u16, rounds: u8, mosaic: &[u16], green: &[u16], work
     }
 }
 
-// A colour's plane: loaded, worked on through all rounds, and stored once.
+// A colour's plane: loaded, worked on through all rounds, and unloaded once.
 fn rewrite(
     colour: Colour,
     top: u16,
@@ -148,11 +132,11 @@ fn rewrite(
 )
     requires { ⌜ Workable (colour .width) (colour .height) (now mosaic) (now green) (length (now work)) × (colour .row < 2) × (colour .column < 2) × (length (now plane) ≡ colour .width * colour .height) ⌝ }
     ensures { λ _. ⌜ now (plane .exit) ≡ listing (colour .width) (colour .height) (rewritten rounds (round-of colour top (now (mosaic .entry)) (now (green .entry))) (plane-of 0 (colour .width) (now (plane .entry)))) ⌝ }
-    ensures { λ _. ⌜ now (work .exit) ≡ with-plane (colour .width) (colour .height) (after-rounds rounds (round-of colour top (now (mosaic .entry)) (now (green .entry))) (λ i j. pos (plane-of 0 (colour .width) (now (plane .entry)) i j))) (now (work .entry)) ⌝ }
+    ensures { λ _. ⌜ now (work .exit) ≡ with-plane (colour .width) (colour .height) (working-plane rounds (round-of colour top (now (mosaic .entry)) (now (green .entry))) (λ i j. pos (plane-of 0 (colour .width) (now (plane .entry)) i j))) (now (work .entry)) ⌝ }
 {
     load(plane, work);
     run(colour, top, rounds, mosaic, green, work);
-    store(work, plane);
+    unload(work, plane);
 }
 
 // Question 10 of the three planes, where `top` is the ceiling.
@@ -185,7 +169,7 @@ fn rounds_refusal(
 ) -> u32
     ensures { λ r. ⌜ r ≡ ask (rounds-questions (frame width height layout (now (mosaic .entry))) settings (lent (now (red .entry)) (now (green .entry)) (now (blue .entry)) (now (work .entry)))) ⌝ }
 {
-    let number = work_buffer::lent_refusal(
+    let number = questions::lent_refusal(
         width,
         height,
         layout,
@@ -254,8 +238,8 @@ pub fn rounds(
     green: &[u16],
     blue: &mut [u16],
     work: &mut [i32],
-) -> RoundsAnswer
-    ensures { λ r. ⌜ RoundsResult (frame width height layout (now (mosaic .entry))) settings (lent (now (red .entry)) (now (green .entry)) (now (blue .entry)) (now (work .entry))) r (lent (now (red .exit)) (now (green .entry)) (now (blue .exit)) (now (work .exit))) ⌝ }
+) -> Answer
+    ensures { λ r. ⌜ Result (rounds-call (frame width height layout (now (mosaic .entry))) settings (lent (now (red .entry)) (now (green .entry)) (now (blue .entry)) (now (work .entry)))) r (lent (now (red .exit)) (now (green .entry)) (now (blue .exit)) (now (work .exit))) ⌝ }
 {
     let refusal = rounds_refusal(
         width,
@@ -269,7 +253,7 @@ pub fn rounds(
         work,
     );
     if refusal != 0 {
-        return RoundsAnswer::Refused(refusal);
+        return Answer::Refused(refusal);
     }
     rewrite_colours(
         width,
@@ -282,5 +266,5 @@ pub fn rounds(
         blue,
         work,
     );
-    RoundsAnswer::Accepted
+    Answer::Accepted
 }

@@ -11,11 +11,12 @@ use lib.Signed.{nonNeg}
 use Rattle.integers.specs.Lists.{overwrite}
 use Rattle.integers.proofs.Lists.{length-overwrite, overwrite-in, overwrite-after, overwrite-cong}
 use Rattle.integers.proofs.Bounds.{abs-add, abs-sub}
-use Rattle.turns.proofs.Frames.{row-room, overwrite-row}
+use Rattle.planes.specs.Lists.{value}
+use Rattle.planes.proofs.Planes.{row-room, overwrite-row}
 use Rattle.filters.specs.Bank.{Taps, along, low-split, high-split, high-join}
 use Rattle.filters.proofs.Ranges.{gain}
 use Rattle.lines.specs.declared.Five.{Five}
-use Rattle.lines.specs.Lines.{value, Run, three}
+use Rattle.lines.specs.Lines.{Run, three}
 use Rattle.lines.proofs.Lines.{run-wider, run-laid, three-range}
 use Rattle.projection.specs.Fast.{outer-part, crossed-along, low-parts, high-parts, apart-row, together-row}
 use Rattle.projection.proofs.Parts.{crossed-joins, along-inside, outer-inside, crossed-inside, outer-part-range}

@@ -12,12 +12,12 @@ use Rattle.integers.specs.Lists.{overwrite}
 use Rattle.integers.proofs.Lists.{length-overwrite, overwrite-in, overwrite-after, overwrite-cong, overwrite-append, overwrite-none}
 use Rattle.border.specs.Border.{reflect}
 use Rattle.border.proofs.Reflection.{reflect-lt, reflect-inside, reflect-before, reflect-after}
-use Rattle.turns.proofs.Frames.{row-room, place-inside, row-inside, column-inside}
+use Rattle.planes.specs.Lists.{InRow, value}
+use Rattle.planes.proofs.Planes.{row-room, place-inside, row-inside, column-inside}
 use Rattle.filters.specs.Bank.{Taps, rescaled, weighted, tap, along, along-columns, low-split, high-split, high-join}
 use Rattle.filters.proofs.Taps.{weighted-three}
 use Rattle.filters.proofs.Ranges.{gain, along-range}
-use Rattle.turns.specs.Filling.{InRow}
-use Rattle.lines.specs.Lines.{value, Run, three}
+use Rattle.lines.specs.Lines.{Run, three}
 use Rattle.lines.proofs.Lines.{outside}
 use Rattle.projection.specs.Projection.{projected}
 use Rattle.projection.specs.Fast.{difference, crossed-along}

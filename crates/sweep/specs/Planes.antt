@@ -5,8 +5,8 @@ use Prim.Native.Nat.{ℕ, _+_, _*_, _/_, _%_, _≤_, _<_}
 use lib.IntN.{ℤ, pos, natAbs, _-ℤ_}
 use lib.ListN.{getD, length}
 use Rattle.integers.specs.Lists.{overwrite}
+use Rattle.planes.specs.Lists.{value}
 use Rattle.filters.specs.Bank.{Distance}
-use Rattle.lines.specs.Lines.{value}
 use Rattle.projection.specs.Projection.{projected}
 use Rattle.sweep.specs.declared.Given.{Given}
 

@@ -8,16 +8,17 @@ use lib.Dec.{leb, eqb}
 use lib.ListN.{length, getD}
 use borrow.Author.Tests.{le-leb, lt-leb, leb-true, eqb-true}
 use Rattle.integers.proofs.Tests.{equal-below}
+use Rattle.planes.specs.Layout.{red-row, red-column, with-parities}
+use Rattle.planes.specs.Planes.{listing, plane-of, Frame, frame}
+use Rattle.planes.proofs.Layouts.{row-lt, column-lt, row-of, column-of, parities-again, own-parities}
 use Rattle.questions.specs.Questions.{ask}
 use Rattle.questions.proofs.Asking.{AllYes, all-yes, Shape, shape-is}
-use Rattle.questions.proofs.Answering.{answer-no, answer-yes, left-no, left-yes}
-use Rattle.turns.specs.Layout.{red-row, red-column, with-parities}
 use Rattle.turns.specs.Pictures.{Picture, exchanged, left-right, top-bottom, flip-if-even, steps-of, if-so, turned-by, turned, followed-by, number-of-steps, then-another}
-use Rattle.turns.specs.Frames.{listing, plane-of, Frame, frame, picture-of, frame-of, turn-frame}
-use Rattle.turns.specs.Turning.{shape-turned, shape-turn-questions, length-questions, frame-questions, number-of-frame, accepted-as, TurnResult}
-use Rattle.turns.specs.declared.TurnedFrame.the-variants.{Accepted, Refused}
+use Rattle.turns.specs.Frames.{picture-of, frame-of, turn-frame}
+use Rattle.turns.specs.Turning.{shape-turned, shape-turn-questions, length-questions, accepted-as}
+use Rattle.turns.specs.declared.TurnedFrame.the-variants.{Accepted}
 use Rattle.turns.specs.Filling.{mirror-place, source-row, source-plane}
-use Rattle.turns.proofs.Pictures.{row-lt, column-lt, row-of, column-of, parities-again, own-parities, flip-lt}
+use Rattle.turns.proofs.Pictures.{flip-lt}
 
 -- ---- then-another, by one computed test over all pairs
 -- as the code has it: the second turn exchanges, or not
@@ -238,21 +239,10 @@ fillable t w h l given room n e z =
       buffer = eqb-true room (w * h) (y .1 .1 .1 .1 .1 .0);
     }
 
--- what it leaves, refused and accepted
-pub turn-no : (t : ℕ) (f : Frame) (before : List ℕ) (n : ℕ) → n ≡ ask (frame-questions t f (length before)) → (n ≡ 0 → ⊥) → TurnResult t f before (Refused n) before
-turn-no t f before n e h = record {
-  answer = answer-no number-of-frame (frame-questions t f (length before)) (accepted-as (turn-frame t f)) (Refused n) e h;
-  buffer = left-no (frame-questions t f (length before)) (turn-frame t f .samples) before n e h;
-}
-
-pub turn-yes : (t : ℕ) (f : Frame) (before after : List ℕ) (w h l n : ℕ) → n ≡ ask (frame-questions t f (length before)) → n ≡ 0
-    → w ≡ cond (leb 4 t) (f .height) (f .width) → h ≡ cond (leb 4 t) (f .width) (f .height) → l ≡ shape-turned t (f .width) (f .height) (f .layout) .layout
-    → after ≡ turn-frame t f .samples → TurnResult t f before (Accepted w h l) after
-turn-yes t f before after w h l n a z p q r e = record {
-  answer = answer-yes number-of-frame (frame-questions t f (length before)) (accepted-as (turn-frame t f)) (Accepted w h l) n a z refl
-      (λ i. Accepted ((p ∙ sym (frame-width t f)) i) ((q ∙ sym (frame-height t f)) i) ((r ∙ sym (frame-layout t f)) i));
-  buffer = e ∙ left-yes (frame-questions t f (length before)) (turn-frame t f .samples) before n a z;
-}
+-- its answer, by whether the turn exchanges
+pub turned-answer : (t : ℕ) (f : Frame) {w h l : ℕ} → w ≡ cond (leb 4 t) (f .height) (f .width) → h ≡ cond (leb 4 t) (f .width) (f .height)
+    → l ≡ shape-turned t (f .width) (f .height) (f .layout) .layout → Accepted w h l ≡ accepted-as (turn-frame t f)
+turned-answer t f p q r = λ i. Accepted ((p ∙ sym (frame-width t f)) i) ((q ∙ sym (frame-height t f)) i) ((r ∙ sym (frame-layout t f)) i)
 
 -- the turned shape, by whether the turn exchanges
 pub shape-width : (t w h l : ℕ) → shape-turned t w h l .width ≡ cond (leb 4 t) h w

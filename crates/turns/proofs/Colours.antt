@@ -2,7 +2,7 @@
 use mathlib.Core.Path.{_≡_, refl}
 use mathlib.Core.Bool.{Bool, true, false}
 use Prim.Native.Nat.{ℕ}
-use Rattle.turns.specs.Layout.{Colour, by-parity, colour}
+use Rattle.planes.specs.Layout.{Colour, by-parity, colour}
 use Rattle.turns.specs.Pictures.{Picture, turned, _≈_}
 use Rattle.turns.proofs.Commuting.{same, apply, apply-turned, by-parities}
 

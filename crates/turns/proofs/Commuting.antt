@@ -12,14 +12,12 @@ use Rattle.integers.proofs.Bounds.{minus-pos}
 use Rattle.integers.proofs.Linear.{linear, x₀, x₁, x₂, neg, _⊕_, _⊖_}
 use Rattle.border.specs.Border.{reflect}
 use Rattle.border.proofs.Reflection.{reflect-lt, reflect-mirror}
-use Rattle.turns.specs.Layout.{red-row, red-column, on-red-row, on-red-column, with-parities}
+use Rattle.planes.specs.Layout.{red-row, red-column, on-red-row, on-red-column, with-parities}
+use Rattle.planes.specs.Planes.{Agree}
+use Rattle.planes.proofs.Layouts.{row-lt, column-lt, row-of, column-of}
 use Rattle.turns.specs.Pictures.{Picture, exchanged, left-right, top-bottom, flip-if-even, steps-of, if-so, turned-by, turned, _≈_}
 use Rattle.turns.specs.Operations.{Operation, Around, nearby}
-use Rattle.turns.proofs.Pictures.{row-lt, column-lt, row-of, column-of, flip-is, flip-lt, ≈-refl, ≈-sym, ≈-trans, exchanged-≈, left-right-≈, top-bottom-≈, top-bottom-is}
-
--- two planes that agree inside w by h
-abbrev pub Agree : {A : Type 0} → ℕ → ℕ → (ℕ → ℕ → A) → (ℕ → ℕ → A) → Type 0
-Agree w h p q = (r c : ℕ) → r < h → c < w → p r c ≡ q r c
+use Rattle.turns.proofs.Pictures.{flip-is, flip-lt, ≈-refl, ≈-sym, ≈-trans, exchanged-≈, left-right-≈, top-bottom-≈, top-bottom-is}
 
 -- the layout after an exchange, and after a left-right mirror
 abbrev pub exchange-layout : ℕ → ℕ

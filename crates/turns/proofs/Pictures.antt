@@ -6,35 +6,11 @@ use Prim.Native.Nat.{ℕ, _+_, _*_, _-_, _%_, _<_}
 use native.Mathlib.Decide.{ℕ-discrete}
 use native.Mathlib.Omega.{arith}
 use borrow.Author.Tests.{eq-eqb, ne-eqb}
-use Rattle.turns.specs.Layout.{red-row, red-column, with-parities}
+use Rattle.planes.specs.Layout.{red-row, red-column, with-parities}
+use Rattle.planes.proofs.Layouts.{row-lt, column-lt, row-of, column-of, parities-again, own-parities}
 use Rattle.turns.specs.Pictures.{Picture, exchanged, left-right, top-bottom, flip-if-even, Steps, steps-of, if-so, turned-by, turned, followed-by, bit, number-of-steps, then-another, _≈_}
 
--- ---- layouts
-pub row-lt : (l : ℕ) → red-row l < 2
-unfolding red-row
-row-lt l = omega arith
-
-pub column-lt : (l : ℕ) → red-column l < 2
-unfolding red-column
-column-lt l = omega arith
-
-pub row-of : (l r c : ℕ) → r < 2 → c < 2 → red-row (with-parities l r c) ≡ r
-unfolding with-parities red-row
-row-of l r c hr hc = omega arith
-
-pub column-of : (l r c : ℕ) → r < 2 → c < 2 → red-column (with-parities l r c) ≡ c
-unfolding with-parities red-column
-column-of l r c hr hc = omega arith
-
-pub parities-again : (l a b r c : ℕ) → a < 2 → b < 2 → with-parities (with-parities l a b) r c ≡ with-parities l r c
-unfolding with-parities
-parities-again l a b r c ha hb = omega arith
-
-pub own-parities : (l : ℕ) → with-parities l (red-row l) (red-column l) ≡ l
-unfolding with-parities red-row red-column
-own-parities l = omega arith
-
--- the flip by the length's parity
+-- ---- a parity, flipped by the length's parity
 pub flip-even : (n p : ℕ) → n % 2 ≡ 0 → flip-if-even n p ≡ 1 - p
 unfolding flip-if-even
 flip-even n p e = rw (eq-eqb (n % 2) 0 e, flip-if-even)

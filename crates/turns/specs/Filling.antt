@@ -15,12 +15,3 @@ source-row samples mirror n from step j = getD samples (from + mirror-place mirr
 -- a plane of such rows, `row-step` apart
 unfoldable pub source-plane : List ℕ → Bool → Bool → ℕ → ℕ → ℕ → ℕ → (ℕ → ℕ → ℕ)
 source-plane samples left-right top-bottom columns rows row-step column-step i = source-row samples left-right columns (mirror-place top-bottom rows i * row-step) column-step
-
--- n samples from `from` on, `step` apart, lie in the list
-pub record InRow (samples : List ℕ) (n from step : ℕ) : Type 0 where
-  pub inside : (j : ℕ) → j < n → from + j * step < length samples
-
--- and so do `rows` rows of them, which are not empty
-pub record InPlane (samples : List ℕ) (columns rows row-step column-step : ℕ) : Type 0 where
-  pub some : 0 < columns
-  pub inside : (i j : ℕ) → i < rows → j < columns → i * row-step + j * column-step < length samples

@@ -1,4 +1,3 @@
-pub mod Layout
 pub mod Pictures
 pub mod Frames
 pub mod Operations

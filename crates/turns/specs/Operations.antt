@@ -3,7 +3,7 @@ use mathlib.Core.Bool.{Bool}
 use Prim.Native.Nat.{ℕ}
 use lib.IntN.{ℤ, pos, _+ℤ_}
 use Rattle.border.specs.Border.{reflect}
-use Rattle.turns.specs.Layout.{on-red-row, on-red-column}
+use Rattle.planes.specs.Layout.{on-red-row, on-red-column}
 
 -- from a width, a height, a layout and a plane to a plane of that size
 abbrev pub Operation : Type 0 → Type 0 → Type 0

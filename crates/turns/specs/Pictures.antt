@@ -3,7 +3,7 @@ use mathlib.Core.Path.{_≡_}
 use mathlib.Core.Bool.{Bool, true, false, cond, xor}
 use Prim.Native.Nat.{ℕ, _+_, _*_, _-_, _/_, _%_, _<_}
 use lib.Dec.{leb, eqb}
-use Rattle.turns.specs.Layout.{red-row, red-column, with-parities}
+use Rattle.planes.specs.Layout.{red-row, red-column, with-parities}
 
 infix 4 _≈_
 -- what stands at each place, by row and column, of a width and a height, with a layout

@@ -1,13 +1,13 @@
 -- The calls on turns: what each asks, and what its answer and its buffer are then. Assumes nothing.
-use mathlib.Core.Path.{_≡_}
 use mathlib.Core.List.{List, [], _∷_, _++_}
 use Prim.Native.Nat.{ℕ, _*_}
 use lib.Dec.{leb, eqb}
 use lib.ListN.{length}
+use Rattle.planes.specs.Planes.{Frame}
 use Rattle.questions.specs.Questions.{Question, question, shape-questions}
-use Rattle.questions.specs.Answers.{Answered, if-accepted}
+use Rattle.questions.specs.Calls.{Call}
 use Rattle.turns.specs.Pictures.{Picture, turned}
-use Rattle.turns.specs.Frames.{Frame, turn-frame}
+use Rattle.turns.specs.Frames.{turn-frame}
 use Rattle.turns.specs.declared.Composed.{Composed}
 use Rattle.turns.specs.declared.Composed.the-variants as composed
 use Rattle.turns.specs.declared.Extent.{Extent}
@@ -57,14 +57,15 @@ abbrev pub accepted-as : Frame → TurnedFrame
 accepted-as f = turned-frame.Accepted (f .width) (f .height) (f .layout)
 
 -- the turning call's questions, of a frame and a second buffer of `room`: 16, 1, 2, 3, 6, 7
-abbrev pub frame-questions : ℕ → Frame → ℕ → List Question
-frame-questions turn f room = shape-turn-questions turn (f .width) (f .height) (f .layout) ++ length-questions (f .width * f .height) (length (f .samples)) room
+abbrev pub turn-questions : ℕ → Frame → ℕ → List Question
+turn-questions turn f room = shape-turn-questions turn (f .width) (f .height) (f .layout) ++ length-questions (f .width * f .height) (length (f .samples)) room
 
--- the turning call, given frame f and a second buffer that held `before`: what the buffer holds `after`
-abbrev pub TurnLeaves : ℕ → Frame → List ℕ → List ℕ → Type 0
-TurnLeaves turn f before after = after ≡ if-accepted (frame-questions turn f (length before)) (turn-frame turn f .samples) before
-
--- and its answer r
-pub record TurnResult (turn : ℕ) (f : Frame) (before : List ℕ) (r : TurnedFrame) (after : List ℕ) : Type 0 where
-  pub answer : Answered number-of-frame (frame-questions turn f (length before)) (accepted-as (turn-frame turn f)) r
-  pub buffer : TurnLeaves turn f before after
+-- the turning call, given frame f and a second buffer that held `before`: the buffer holds the turned samples then
+abbrev pub turn-call : ℕ → Frame → List ℕ → Call TurnedFrame (List ℕ)
+turn-call turn f before = record {
+  questions = turn-questions turn f (length before);
+  number-of = number-of-frame;
+  answer = accepted-as (turn-frame turn f);
+  new = turn-frame turn f .samples;
+  old = before;
+}

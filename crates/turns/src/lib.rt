@@ -6,12 +6,14 @@ ghost use Prim.Native.Nat.{ℕ, _+_, _*_, _/_, _%_, _≤_, _<_};
 ghost use lib.Dec.{eqb, leb};
 ghost use lib.ListN.{length};
 ghost use Rattle.integers.specs.Lists.{overwrite};
+ghost use Rattle.planes.specs.Planes.{frame, listing};
+ghost use Rattle.planes.specs.Lists.{InRow, InPlane};
 ghost use Rattle.questions.specs.Questions.{ask};
-ghost use Rattle.questions.specs.Answers.{Answered};
+ghost use Rattle.questions.specs.Calls.{Answered, Result};
 ghost use Rattle.turns.specs.Pictures.{flip-if-even, then-another};
-ghost use Rattle.turns.specs.Frames.{frame, listing, turn-frame};
-ghost use Rattle.turns.specs.Turning.{shape-turned, then-questions, shape-turn-questions, length-questions, number-of-composed, number-of-extent, number-of-layout, TurnResult};
-ghost use Rattle.turns.specs.Filling.{mirror-place, source-row, source-plane, InRow, InPlane};
+ghost use Rattle.turns.specs.Frames.{turn-frame};
+ghost use Rattle.turns.specs.Turning.{shape-turned, then-questions, shape-turn-questions, length-questions, number-of-composed, number-of-extent, number-of-layout, turn-call};
+ghost use Rattle.turns.specs.Filling.{mirror-place, source-row, source-plane};
 
 // A turn, 0 to 7: 4 and more exchange rows and columns first; then 1 mirrors left-right, 2 top-bottom, 3 both.
 pub struct Turn {
@@ -195,7 +197,7 @@ fn fill_rows(
     column_step: usize,
     out: &mut [u16],
 )
-    requires { ⌜ InPlane (now samples) columns rows «row_step» «column_step» ⌝ }
+    requires { ⌜ InPlane (now samples) 0 columns rows «row_step» «column_step» ⌝ }
     requires { ⌜ length (now out) ≡ columns * rows ⌝ }
     ensures { λ _. ⌜ now (out .exit) ≡ listing columns rows (source-plane (now (samples .entry)) (eqb «left_right» 1) (eqb «top_bottom» 1) columns rows «row_step» «column_step») ⌝ }
 {
@@ -256,7 +258,7 @@ pub fn turn_samples(
     samples: &[u16],
     out: &mut [u16],
 ) -> TurnedFrame
-    ensures { λ r. ⌜ TurnResult (turn .number) (frame width height layout (now (samples .entry))) (now (out .entry)) r (now (out .exit)) ⌝ }
+    ensures { λ r. ⌜ Result (turn-call (turn .number) (frame width height layout (now (samples .entry))) (now (out .entry))) r (now (out .exit)) ⌝ }
 {
     let t = turn.number;
     let refusal = turn_refusal(t, width, height, layout, samples.len(), out.len());

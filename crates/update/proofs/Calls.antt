@@ -1,25 +1,23 @@
 -- The laws of the update call: what an accepted call knows, and what it leaves. Assumes nothing.
-use mathlib.Core.Path.{_≡_, refl, _∙_, ap}
+use mathlib.Core.Path.{_≡_, _∙_, ap}
 use mathlib.Core.List.{List}
 use Prim.Native.Nat.{ℕ, _*_, _-_, _≤_, _<_}
 use native.Mathlib.Omega.{arith}
 use lib.IntN.{ℤ}
 use lib.ListN.{length}
 use borrow.Author.Tests.{eqb-true, leb-true}
+use Rattle.planes.specs.Layout.{red-row, red-column}
+use Rattle.planes.specs.Planes.{Frame, frame, listing, plane-of}
+use Rattle.planes.specs.Places.{half}
+use Rattle.planes.proofs.Layouts.{row-lt}
+use Rattle.planes.proofs.Places.{few-places}
 use Rattle.questions.specs.Questions.{ask, shape-questions}
 use Rattle.questions.proofs.Asking.{all-yes, all-yes-split, shape-is}
-use Rattle.questions.proofs.Answering.{answer-no, answer-yes, left-no, left-yes}
-use Rattle.turns.specs.Layout.{red-row, red-column}
-use Rattle.turns.specs.Frames.{Frame, frame, listing, plane-of}
-use Rattle.turns.proofs.Pictures.{row-lt}
-use Rattle.work_buffer.specs.Places.{places, Workable}
-use Rattle.work_buffer.specs.Buffer.{zeroed}
-use Rattle.work_buffer.proofs.Places.{few-places}
+use Rattle.work_buffer.specs.Buffer.{zeroed, Workable}
 use Rattle.work_buffer.proofs.Buffer.{length-with-plane, zeroed-with-plane}
 use Rattle.update.specs.Update.{put-mixed, update}
-use Rattle.update.specs.Calls.{updating-questions, update-questions, number-of-answer, update-list, UpdateResult}
+use Rattle.update.specs.Calls.{updating-questions, update-questions, update-list}
 use Rattle.update.specs.Places.{with-mixed}
-use Rattle.update.specs.declared.UpdateAnswer.the-variants.{Accepted, Refused}
 use Rattle.update.proofs.Places.{second-colour}
 
 -- ---- what an accepted call knows
@@ -52,36 +50,16 @@ both-colours top w h l mosaic green e q =
 module _ (top w h a b : ℕ) (mosaic green : List ℕ) (work : List ℤ) (hw : 1 ≤ w) (hh : 1 ≤ h) (room : 8 * (w * h) ≤ length work) where
   length-with-mixed : length (with-mixed top w h a b mosaic green work) ≡ length work
   unfolding with-mixed
-  length-with-mixed = length-with-plane (places w b) (places h a) work (omega (arith, few-places w h a b hw hh, room)) _
+  length-with-mixed = length-with-plane (half w b) (half h a) work (omega (arith, few-places w h a b hw hh, room)) _
 
   zeroed-mixed : zeroed w h (with-mixed top w h a b mosaic green work) ≡ zeroed w h work
   unfolding with-mixed
-  zeroed-mixed = zeroed-with-plane w h (places w b) (places h a) _ work (omega (arith, few-places w h a b hw hh)) room
+  zeroed-mixed = zeroed-with-plane w h (half w b) (half h a) _ work (omega (arith, few-places w h a b hw hh)) room
 
 -- and whatever both did
-pub all-zero : (top w h a b c d : ℕ) (mosaic green after : List ℕ) (work : List ℤ) → 1 ≤ w → 1 ≤ h → 8 * (w * h) ≤ length work → {first second last : List ℤ}
+pub work-zeroed : (top w h a b c d : ℕ) (mosaic green after : List ℕ) (work : List ℤ) → 1 ≤ w → 1 ≤ h → 8 * (w * h) ≤ length work → {first second last : List ℤ}
     → first ≡ with-mixed top w h a b mosaic green work → second ≡ with-mixed top w h c d mosaic after first → last ≡ zeroed w h second
     → last ≡ zeroed w h work
-all-zero top w h a b c d mosaic green after work hw hh room {first} p q r =
+work-zeroed top w h a b c d mosaic green after work hw hh room {first} p q r =
     r ∙ ap (zeroed w h) q ∙ zeroed-mixed top w h c d mosaic after first hw hh (omega (arith, room, ap length p, length-with-mixed top w h a b mosaic green work hw hh room))
     ∙ ap (zeroed w h) p ∙ zeroed-mixed top w h a b mosaic green work hw hh room
-
--- refused and accepted
-module _ (top : ℕ) (f : Frame) (green : List ℕ) (work : List ℤ) (n : ℕ) (e : n ≡ ask (update-questions top f green (length work))) where
-  pub update-no : (n ≡ 0 → ⊥) → UpdateResult top f green work (Refused n) green work
-  update-no z = record {
-    answer = answer-no number-of-answer (update-questions top f green (length work)) Accepted (Refused n) e z;
-    leaves = record {
-      plane = left-no (update-questions top f green (length work)) (update-list top f green) green n e z;
-      buffer = left-no (update-questions top f green (length work)) (zeroed (f .width) (f .height) work) work n e z;
-    };
-  }
-
-  pub update-yes : n ≡ 0 → {green-after : List ℕ} {work-after : List ℤ} → green-after ≡ update-list top f green → work-after ≡ zeroed (f .width) (f .height) work → UpdateResult top f green work Accepted green-after work-after
-  update-yes z p q = record {
-    answer = answer-yes number-of-answer (update-questions top f green (length work)) Accepted Accepted n e z refl refl;
-    leaves = record {
-      plane = p ∙ left-yes (update-questions top f green (length work)) (update-list top f green) green n e z;
-      buffer = q ∙ left-yes (update-questions top f green (length work)) (zeroed (f .width) (f .height) work) work n e z;
-    };
-  }

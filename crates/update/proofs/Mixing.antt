@@ -11,12 +11,12 @@ use Rattle.integers.specs.Numbers.{rounded, clamp}
 use Rattle.integers.proofs.Tests.{cond-cases}
 use Rattle.integers.proofs.Order.{≤ℤ-antisym}
 use Rattle.integers.proofs.Clamping.{clamp-cases, clamp-sample}
-use Rattle.turns.specs.Layout.{red-row, red-column, on-red-row, on-red-column}
-use Rattle.turns.proofs.Pictures.{row-lt, column-lt}
+use Rattle.planes.specs.Layout.{red-row, red-column, on-red-row, on-red-column}
+use Rattle.planes.specs.Places.{half}
+use Rattle.planes.proofs.Layouts.{row-lt, column-lt}
+use Rattle.planes.proofs.Places.{other-parity}
 use Rattle.filters.specs.Bank.{Bands, split, join, brought-back}
 use Rattle.projection.specs.Projection.{held, hold-details, held-sum, projected}
-use Rattle.work_buffer.specs.Places.{places}
-use Rattle.work_buffer.proofs.Places.{other-parity}
 use Rattle.update.specs.Update.{small-plane, mix, mixed, put-mixed, update}
 
 -- ---- mixing is the projection with the limit 0
@@ -50,25 +50,25 @@ mixed-bound top w h green colour r c = clamp-sample top _ .0
 
 -- ---- every second place of n, from a on
 -- the mirrored place's small line is as long
-pub places-mirror : (n c : ℕ) → c < n → places n (c % 2) ≡ places n ((n - 1 - c) % 2)
-unfolding places
+pub places-mirror : (n c : ℕ) → c < n → half n (c % 2) ≡ half n ((n - 1 - c) % 2)
+unfolding half
 places-mirror n c h = omega arith
 
 -- and in it the mirrored place is the mirrored one
-pub small-mirror : (n c : ℕ) → c < n → places n (c % 2) - 1 - c / 2 ≡ (n - 1 - c) / 2
-unfolding places
+pub small-mirror : (n c : ℕ) → c < n → half n (c % 2) - 1 - c / 2 ≡ (n - 1 - c) / 2
+unfolding half
 small-mirror n c h = omega arith
 
 -- the place of the line that is the mirror of place j of a small line
-pub place-mirror : (n c j : ℕ) → c < n → j < places n (c % 2) → n - 1 - (2 * j + c % 2) ≡ 2 * (places n (c % 2) - 1 - j) + (n - 1 - c) % 2
-unfolding places
+pub place-mirror : (n c j : ℕ) → c < n → j < half n (c % 2) → n - 1 - (2 * j + c % 2) ≡ 2 * (half n (c % 2) - 1 - j) + (n - 1 - c) % 2
+unfolding half
 place-mirror n c j h hj = omega arith
 
 -- ---- an update by a place's own parities
 -- from the small planes of the places with these parities; a place has its mosaic sample, and its green
 unfoldable pub own-mixed : ℕ → ℕ → ℕ → (ℕ → ℕ → ℕ) → (ℕ → ℕ → ℕ) → ℕ → ℕ → ℕ
 own-mixed top w h mosaic green r c =
-    mixed top (places w (c % 2)) (places h (r % 2)) (small-plane (r % 2) (c % 2) (λ i j. pos (green i j))) (small-plane (r % 2) (c % 2) (λ i j. pos (mosaic i j))) (r / 2) (c / 2)
+    mixed top (half w (c % 2)) (half h (r % 2)) (small-plane (r % 2) (c % 2) (λ i j. pos (green i j))) (small-plane (r % 2) (c % 2) (λ i j. pos (mosaic i j))) (r / 2) (c / 2)
 
 -- a place put into a plane is put there from the places with its own parities
 pub put-mixed-own : (top w h a b : ℕ) (mosaic green plane : ℕ → ℕ → ℕ) (r c : ℕ)
@@ -77,7 +77,7 @@ unfolding put-mixed own-mixed
 put-mixed-own top w h a b mosaic green plane r c = go (eqb (r % 2) a) (eqb (c % 2) b) (eqb→eq (r % 2) a) (eqb→eq (c % 2) b)
   where
     at : ℕ → ℕ → ℕ
-    at a b = mixed top (places w b) (places h a) (small-plane a b (λ i j. pos (green i j))) (small-plane a b (λ i j. pos (mosaic i j))) (r / 2) (c / 2)
+    at a b = mixed top (half w b) (half h a) (small-plane a b (λ i j. pos (green i j))) (small-plane a b (λ i j. pos (mosaic i j))) (r / 2) (c / 2)
 
     go : (s t : Bool) → (T s → r % 2 ≡ a) → (T t → c % 2 ≡ b) → cond (s && t) (at a b) (plane r c) ≡ cond (s && t) (at (r % 2) (c % 2)) (plane r c)
     go true true e f = λ m. at (sym (e tt) m) (sym (f tt) m)

@@ -16,19 +16,18 @@ use Rattle.integers.proofs.Tests.{and-left}
 use Rattle.integers.proofs.Bounds.{abs-sub}
 use Rattle.integers.proofs.Clamping.{clamp-sample}
 use Rattle.integers.proofs.Lists.{tabulate-cong, tabulate-getD, length-overwrite, overwrite-in, overwrite-cong, overwrite-again}
-use Rattle.turns.specs.Frames.{listing, plane-of}
-use Rattle.turns.proofs.Commuting.{Agree}
-use Rattle.turns.proofs.Frames.{row-inside, column-inside, place-inside as cell-inside, plane-of-listing, listing-agree}
+use Rattle.planes.specs.Planes.{listing, plane-of, Agree}
+use Rattle.planes.specs.Lists.{value, sample, put}
+use Rattle.planes.specs.Places.{half, place}
+use Rattle.planes.proofs.Planes.{row-inside, column-inside, place-inside, plane-of-listing, listing-agree}
+use Rattle.planes.proofs.Places.{length-put, second-inside, small-inside, row-place, small-place, nearer-in-list, put-colour}
 use Rattle.filters.specs.Bank.{Distance}
-use Rattle.lines.specs.Lines.{value}
 use Rattle.projection.specs.Projection.{projected}
 use Rattle.projection.proofs.Projection.{projected-agrees}
 use Rattle.sweep.specs.declared.Given.{Given}
 use Rattle.sweep.specs.Planes.{own-plane, guide-plane, Projectable, with-projected}
-use Rattle.work_buffer.specs.Places.{places, place, sample, put, Narrow, Workable}
-use Rattle.work_buffer.specs.Buffer.{with-plane}
+use Rattle.work_buffer.specs.Buffer.{with-plane, Narrow, Workable}
 use Rattle.work_buffer.proofs.Buffer.{with-plane-at, narrow-plane}
-use Rattle.work_buffer.proofs.Places.{length-put, place-inside, small-inside, row-place, small-place, nearer-in-list, put-colour}
 use Rattle.update.specs.Update.{small-plane, mixed, put-mixed}
 use Rattle.update.specs.Places.{small-mixed, with-mixed}
 use Rattle.update.proofs.Mixing.{mixed-projected, mixed-bound, own-mixed, put-mixed-own}
@@ -51,10 +50,10 @@ guide-small w a b s i j = ap (λ (n : ℕ). pos (getD s n 0)) (same (small-place
 module _ (w h a b : ℕ) (ha : a < 2) (hb : b < 2) where
   -- the small plane's sizes
   abbrev columns : ℕ
-  columns = places w b
+  columns = half w b
 
   abbrev rows : ℕ
-  rows = places h a
+  rows = half h a
 
   -- and where it stands in a list
   abbrev at-place : ℕ → ℕ
@@ -72,14 +71,14 @@ module _ (w h a b : ℕ) (ha : a < 2) (hb : b < 2) where
       unfolding sample
       gathered-small i j hi hj =
           ap (λ (l : List ℤ). value l (0 + (i * columns + j))) e
-          ∙ overwrite-in work 0 (columns * rows) (λ k. sample green (at-place k)) (i * columns + j) (pos 0) (omega arith) (cell-inside hi hj)
+          ∙ overwrite-in work 0 (columns * rows) (λ k. sample green (at-place k)) (i * columns + j) (pos 0) (omega arith) (place-inside hi hj)
           ∙ ap (λ (n : ℕ). pos (getD green n 0)) (row-place (a * w + b) (2 * w) columns i j hj ∙ small-place w a b i j)
           ∙ (unfold small-plane plane-of in refl)
 
       -- they may be projected
       pub projectable : Workable w h mosaic green (length work) → ((k : ℕ) → getD mosaic k 0 ≤ 65535) → ((k : ℕ) → getD green k 0 ≤ 65535) → (from down across : ℕ) (limit : ℤ) → from ≤ a * w + b → down ≤ 2 * w → across ≤ 2 → Distance limit
           → Projectable (given from down across limit) gathered mosaic
-      unfolding own-plane guide-plane sample places
+      unfolding own-plane guide-plane sample half
       projectable u sm sg from down across limit p q r distance = record {
         size = record {
           width-from = omega (arith, u .width-from);
@@ -91,7 +90,7 @@ module _ (w h a b : ℕ) (ha : a < 2) (hb : b < 2) where
         inside = omega (arith, room, ap length e, length-overwrite work 0 (columns * rows) (λ k. sample green (at-place k)) (omega arith));
         small = λ k hk. omega (arith, bound k hk);
         guide-inside = λ i j hi hj. omega (arith, nearer-in-list w h a b ha hb from down across i j p q r hi hj, u .samples);
-        near = λ i j hi hj. omega (arith, abs-sub (value gathered (0 + (i * columns + j))) (pos (getD mosaic (from + i * down + j * across) 0)), bound (i * columns + j) (cell-inside hi hj), sm (from + i * down + j * across));
+        near = λ i j hi hj. omega (arith, abs-sub (value gathered (0 + (i * columns + j))) (pos (getD mosaic (from + i * down + j * across) 0)), bound (i * columns + j) (place-inside hi hj), sm (from + i * down + j * across));
       }
         where
           bound : (k : ℕ) → k < columns * rows → natAbs (value gathered (0 + k)) ≤ 65535
@@ -147,7 +146,7 @@ module _ (w h a b : ℕ) (ha : a < 2) (hb : b < 2) where
 
           there : (i j : ℕ) → i < rows → j < columns → natAbs (value laid (i * columns + j)) ≡ new (2 * i + a) (2 * j + b)
           there i j hi hj =
-              ap natAbs (laid-at (i * columns + j) (cell-inside hi hj)) ∙ (λ m. small-mixed top w h a b mosaic green (digits-div i hj m) (digits-mod i hj m))
+              ap natAbs (laid-at (i * columns + j) (place-inside hi hj)) ∙ (λ m. small-mixed top w h a b mosaic green (digits-div i hj m) (digits-mod i hj m))
               ∙ (unfold small-mixed in (λ m. mixed top columns rows (small-plane a b (λ i j. pos (plane-of 0 w green i j))) (small-plane a b (λ i j. pos (plane-of 0 w mosaic i j))) (row-half m) (column-half m)))
             where
               row-half : i ≡ (2 * i + a) / 2
@@ -195,6 +194,6 @@ second-colour top w h a b other column n mosaic green {first} e = listing-agree 
         ∙ sym (put-mixed-own top w h a b mosaic green between r c)
       where
         own : r % 2 ≡ a → own-mixed top w h mosaic (plane-of 0 w first) r c ≡ own-mixed top w h mosaic green r c
-        own x = unfold own-mixed small-plane in mixed-agrees top (places w (c % 2)) (places h (r % 2)) _ _ _
-            (λ i j hi hj. ap pos (held (2 * i + r % 2) (2 * j + c % 2) (place-inside h (r % 2) i (omega arith) hi) (place-inside w (c % 2) j (omega arith) hj) ∙ put-elsewhere top w h other column mosaic green green (2 * i + r % 2) (2 * j + c % 2) (λ y. n (sym x ∙ omega arith))))
+        own x = unfold own-mixed small-plane in mixed-agrees top (half w (c % 2)) (half h (r % 2)) _ _ _
+            (λ i j hi hj. ap pos (held (2 * i + r % 2) (2 * j + c % 2) (second-inside h (r % 2) i (omega arith) hi) (second-inside w (c % 2) j (omega arith) hj) ∙ put-elsewhere top w h other column mosaic green green (2 * i + r % 2) (2 * j + c % 2) (λ y. n (sym x ∙ omega arith))))
             (r / 2) (c / 2) (small-inside h r hr) (small-inside w c hc)

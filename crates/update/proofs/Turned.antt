@@ -4,32 +4,33 @@ use mathlib.Core.Bool.{Bool, true, false, cond}
 use Prim.Native.Nat.{ℕ, _+_, _*_, _-_, _/_, _%_}
 use native.Mathlib.Omega.{arith}
 use lib.IntN.{ℤ, pos, natAbs}
+use Rattle.planes.specs.Planes.{Agree}
+use Rattle.planes.specs.Places.{half}
+use Rattle.planes.proofs.Places.{second-inside, small-inside}
 use Rattle.turns.specs.Operations.{Operation}
 use Rattle.turns.specs.Pictures.{Picture, turned, _≈_}
-use Rattle.turns.proofs.Commuting.{Agree, Commutes, same, composed, paired, pointwise, by-parities, commutes-by, apply, apply-turned}
+use Rattle.turns.proofs.Commuting.{Commutes, same, composed, paired, pointwise, by-parities, commutes-by, apply, apply-turned}
 use Rattle.projection.proofs.Projection.{projected-commutes}
-use Rattle.work_buffer.specs.Places.{places}
-use Rattle.work_buffer.proofs.Places.{place-inside, small-inside}
 use Rattle.update.specs.Update.{small-plane, mixed, update}
 use Rattle.update.proofs.Mixing.{mixed-projected, places-mirror, small-mirror, place-mirror, own-mixed, both-or-neither, update-place}
 
 -- ---- an operation on small planes, which asks for no layout, at every place on the small plane of the places with its parities
 unfoldable pub on-small-planes : {A B : Type 0} → (ℕ → ℕ → (ℕ → ℕ → A) → ℕ → ℕ → B) → Operation A B
-on-small-planes F w h l p r c = F (places w (c % 2)) (places h (r % 2)) (small-plane (r % 2) (c % 2) p) (r / 2) (c / 2)
+on-small-planes F w h l p r c = F (half w (c % 2)) (half h (r % 2)) (small-plane (r % 2) (c % 2) p) (r / 2) (c / 2)
 
 -- commutes with every turn if it does so on small planes
 pub on-small-planes-commutes : {A B : Type 0} (F : ℕ → ℕ → (ℕ → ℕ → A) → ℕ → ℕ → B) → Commutes same same (λ w h l p. F w h p) → Commutes same same (on-small-planes F)
 unfolding on-small-planes small-plane
 on-small-planes-commutes {A} {B} F f = record {
-  agrees = λ w h l p q e r c hr hc. f .agrees (places w (c % 2)) (places h (r % 2)) 0 (λ i j. p (2 * i + r % 2) (2 * j + c % 2)) (λ i j. q (2 * i + r % 2) (2 * j + c % 2))
-      (λ i j hi hj. e (2 * i + r % 2) (2 * j + c % 2) (place-inside h (r % 2) i (omega arith) hi) (place-inside w (c % 2) j (omega arith) hj))
+  agrees = λ w h l p q e r c hr hc. f .agrees (half w (c % 2)) (half h (r % 2)) 0 (λ i j. p (2 * i + r % 2) (2 * j + c % 2)) (λ i j. q (2 * i + r % 2) (2 * j + c % 2))
+      (λ i j hi hj. e (2 * i + r % 2) (2 * j + c % 2) (second-inside h (r % 2) i (omega arith) hi) (second-inside w (c % 2) j (omega arith) hj))
       (r / 2) (c / 2) (small-inside h r hr) (small-inside w c hc);
-  exchange = λ w h l p r c hr hc. f .exchange (places w (r % 2)) (places h (c % 2)) 0 (λ i j. p (2 * i + c % 2) (2 * j + r % 2)) (r / 2) (c / 2) (small-inside w r hr) (small-inside h c hc);
+  exchange = λ w h l p r c hr hc. f .exchange (half w (r % 2)) (half h (c % 2)) 0 (λ i j. p (2 * i + c % 2) (2 * j + r % 2)) (r / 2) (c / 2) (small-inside w r hr) (small-inside h c hc);
   mirror = λ w h l p r c hr hc.
-      f .agrees (places w (c % 2)) (places h (r % 2)) 0 _ (λ i j. p (2 * i + r % 2) (2 * (places w (c % 2) - 1 - j) + (w - 1 - c) % 2))
+      f .agrees (half w (c % 2)) (half h (r % 2)) 0 _ (λ i j. p (2 * i + r % 2) (2 * (half w (c % 2) - 1 - j) + (w - 1 - c) % 2))
       (λ i j hi hj. ap (p (2 * i + r % 2)) (place-mirror w c j hc hj)) (r / 2) (c / 2) (small-inside h r hr) (small-inside w c hc)
-      ∙ f .mirror (places w (c % 2)) (places h (r % 2)) 0 (λ i j. p (2 * i + r % 2) (2 * j + (w - 1 - c) % 2)) (r / 2) (c / 2) (small-inside h r hr) (small-inside w c hc)
-      ∙ (λ m. F (places-mirror w c hc m) (places h (r % 2)) (λ i j. p (2 * i + r % 2) (2 * j + (w - 1 - c) % 2)) (r / 2) (small-mirror w c hc m));
+      ∙ f .mirror (half w (c % 2)) (half h (r % 2)) 0 (λ i j. p (2 * i + r % 2) (2 * j + (w - 1 - c) % 2)) (r / 2) (c / 2) (small-inside h r hr) (small-inside w c hc)
+      ∙ (λ m. F (places-mirror w c hc m) (half h (r % 2)) (λ i j. p (2 * i + r % 2) (2 * j + (w - 1 - c) % 2)) (r / 2) (small-mirror w c hc m));
 }
 
 -- ---- mixing

@@ -1,17 +1,15 @@
 -- The green update call: what it asks, and what its answer, its green and its work buffer are then. Assumes nothing.
-use mathlib.Core.Path.{_≡_}
 use mathlib.Core.List.{List, [], _∷_, _++_}
 use Prim.Native.Nat.{ℕ, _*_}
 use lib.Dec.{eqb, leb}
 use lib.IntN.{ℤ}
 use lib.ListN.{length}
+use Rattle.planes.specs.Planes.{Frame, listing, plane-of}
 use Rattle.questions.specs.Questions.{Question, question, all-at-most, shape-questions, samples-question}
-use Rattle.questions.specs.Answers.{Answered, if-accepted}
-use Rattle.turns.specs.Frames.{Frame, listing, plane-of}
+use Rattle.questions.specs.Calls.{Call, plain-call}
+use Rattle.questions.specs.declared.Answer.{Answer}
 use Rattle.work_buffer.specs.Buffer.{zeroed}
 use Rattle.update.specs.Update.{update}
-use Rattle.update.specs.declared.UpdateAnswer.{UpdateAnswer}
-use Rattle.update.specs.declared.UpdateAnswer.the-variants as update-answer
 
 -- ---- the questions, in document 01's order
 -- 6 of mosaic and green, 8, 9, and 10 of green, where a plane has `count` samples up to `top`
@@ -23,23 +21,12 @@ updating-questions top count mosaic green room =
 abbrev pub update-questions : ℕ → Frame → List ℕ → ℕ → List Question
 update-questions top f green room = shape-questions (f .width) (f .height) (f .layout) ++ updating-questions top (f .width * f .height) (f .samples) green room
 
--- document 01's number of an answer
-abbrev pub number-of-answer : UpdateAnswer → ℕ
-number-of-answer update-answer.Accepted = 0
-number-of-answer (update-answer.Refused number) = number
-
 -- ---- what is promised
 -- the updated green, row by row
 unfoldable pub update-list : ℕ → Frame → List ℕ → List ℕ
 update-list top f green =
     listing (f .width) (f .height) (update top (f .width) (f .height) (f .layout) (λ r c. (plane-of 0 (f .width) (f .samples) r c, plane-of 0 (f .width) green r c)))
 
--- the update call, given frame f, a green plane that held `green`, and a work buffer that held `work`: what the two hold after
-pub record UpdateLeaves (top : ℕ) (f : Frame) (green : List ℕ) (work : List ℤ) (green-after : List ℕ) (work-after : List ℤ) : Type 0 where
-  pub plane : green-after ≡ if-accepted (update-questions top f green (length work)) (update-list top f green) green
-  pub buffer : work-after ≡ if-accepted (update-questions top f green (length work)) (zeroed (f .width) (f .height) work) work
-
--- and its answer r
-pub record UpdateResult (top : ℕ) (f : Frame) (green : List ℕ) (work : List ℤ) (r : UpdateAnswer) (green-after : List ℕ) (work-after : List ℤ) : Type 0 where
-  pub answer : Answered number-of-answer (update-questions top f green (length work)) update-answer.Accepted r
-  pub leaves : UpdateLeaves top f green work green-after work-after
+-- the update call, given frame f, a green plane that held `green` and a work buffer that held `work`: they hold the updated green, and zeros, then
+abbrev pub update-call : ℕ → Frame → List ℕ → List ℤ → Call Answer (List ℕ × List ℤ)
+update-call top f green work = plain-call (update-questions top f green (length work)) (update-list top f green, zeroed (f .width) (f .height) work) (green, work)

@@ -1,10 +1,10 @@
 -- Document 01, "Green update". Assumes nothing.
 use Prim.Native.Nat.{ℕ, _+_, _*_, _-_, _/_}
 use lib.IntN.{ℤ, pos}
-use Rattle.turns.specs.Layout.{red-row, red-column}
+use Rattle.planes.specs.Layout.{red-row, red-column}
+use Rattle.planes.specs.Places.{half, put-at-places}
 use Rattle.turns.specs.Operations.{Operation}
 use Rattle.filters.specs.Bank.{Bands, split, join, brought-back}
-use Rattle.work_buffer.specs.Places.{places, put-at-places}
 
 -- ---- a colour's places: every second row from a on, every second column from b on
 -- the small plane that they form
@@ -22,7 +22,7 @@ mixed top w h green colour r c = brought-back top (join 1 w h (λ i j. mix (spli
 -- ---- put into a plane at those places: from the observed colour in the mosaic, and the first green estimate
 unfoldable pub put-mixed : ℕ → ℕ → ℕ → ℕ → ℕ → (ℕ → ℕ → ℕ) → (ℕ → ℕ → ℕ) → (ℕ → ℕ → ℕ) → ℕ → ℕ → ℕ
 put-mixed top w h a b mosaic green plane =
-    put-at-places a b (λ r c. mixed top (places w b) (places h a) (small-plane a b (λ i j. pos (green i j))) (small-plane a b (λ i j. pos (mosaic i j))) (r / 2) (c / 2)) plane
+    put-at-places a b (λ r c. mixed top (half w b) (half h a) (small-plane a b (λ i j. pos (green i j))) (small-plane a b (λ i j. pos (mosaic i j))) (r / 2) (c / 2)) plane
 
 -- Blue places, and then red places; both read the first green estimate. A place has its mosaic sample, and its green.
 unfoldable pub update : ℕ → Operation (ℕ × ℕ) ℕ

@@ -1,40 +1,24 @@
 // Document 01's green update.
+use questions::Answer;
 ghost use mathlib.Core.Path.{_≡_};
 ghost use Prim.Native.Nat.{_+_, _*_, _≤_, _<_};
 ghost use lib.IntN.{natAbs};
 ghost use lib.ListN.{length};
 ghost use Rattle.integers.specs.Lists.{overwrite};
+ghost use Rattle.planes.specs.Planes.{frame, listing, plane-of};
+ghost use Rattle.planes.specs.Lists.{value, sample, put, InRow, InPlane};
+ghost use Rattle.planes.specs.Places.{place};
 ghost use Rattle.questions.specs.Settings.{ceiling};
 ghost use Rattle.questions.specs.Questions.{ask};
-ghost use Rattle.turns.specs.Frames.{frame, listing, plane-of};
-ghost use Rattle.lines.specs.Lines.{value};
-ghost use Rattle.work_buffer.specs.Places.{place, sample, put, Seconds, SecondRows, Narrow, Workable};
-ghost use Rattle.work_buffer.specs.Buffer.{zeroed};
+ghost use Rattle.questions.specs.Calls.{Result};
+ghost use Rattle.work_buffer.specs.Buffer.{zeroed, Narrow, Workable};
 ghost use Rattle.update.specs.Update.{put-mixed};
-ghost use Rattle.update.specs.Calls.{update-questions, number-of-answer, update-list, UpdateResult};
+ghost use Rattle.update.specs.Calls.{update-questions, update-list, update-call};
 ghost use Rattle.update.specs.Places.{with-mixed};
-
-// What the update call answers.
-pub enum UpdateAnswer {
-    Accepted,
-    Refused(u32),
-}
-
-impl UpdateAnswer {
-    // Document 01's number of a refusal, or 0.
-    pub fn number(self) -> u32
-        ensures { λ r. ⌜ r ≡ number-of-answer self ⌝ }
-    {
-        match self {
-            UpdateAnswer::Accepted => 0,
-            UpdateAnswer::Refused(number) => number,
-        }
-    }
-}
 
 // Every second sample of a row, n of them from `from` on: into the work buffer, from `to` on.
 fn gather_row(green: &[u16], from: usize, n: usize, work: &mut [i32], to: usize)
-    requires { ⌜ Seconds (now green) from n × (to + n ≤ length (now work)) ⌝ }
+    requires { ⌜ InRow (now green) n from 2 × (to + n ≤ length (now work)) ⌝ }
     ensures { λ _. ⌜ now (work .exit) ≡ overwrite (now (work .entry)) to n (λ k. sample (now (green .entry)) (from + 2 * k)) ⌝ }
 {
     let mut k = 0;
@@ -46,7 +30,7 @@ fn gather_row(green: &[u16], from: usize, n: usize, work: &mut [i32], to: usize)
 
 // All rows of a small plane, `down` apart in green, into the work buffer's first numbers.
 fn gather(green: &[u16], from: usize, down: usize, columns: usize, rows: usize, work: &mut [i32])
-    requires { ⌜ SecondRows (now green) from down columns rows × (columns * rows ≤ length (now work)) ⌝ }
+    requires { ⌜ InPlane (now green) from columns rows down 2 × (columns * rows ≤ length (now work)) ⌝ }
     ensures { λ _. ⌜ now (work .exit) ≡ overwrite (now (work .entry)) 0 (columns * rows) (λ k. sample (now (green .entry)) (place from down columns k)) ⌝ }
 {
     let mut i = 0;
@@ -58,7 +42,7 @@ fn gather(green: &[u16], from: usize, down: usize, columns: usize, rows: usize, 
 
 // n numbers of the work buffer, from `at` on, back to every second place of a row.
 fn scatter_row(work: &[i32], at: usize, n: usize, green: &mut [u16], from: usize)
-    requires { ⌜ Narrow (now work) at n × Seconds (now green) from n ⌝ }
+    requires { ⌜ Narrow (now work) at n × InRow (now green) n from 2 ⌝ }
     ensures { λ _. ⌜ now (green .exit) ≡ put (now (green .entry)) n (λ k. from + 2 * k) (λ k. natAbs (value (now (work .entry)) (at + k))) ⌝ }
 {
     let mut k = 0;
@@ -70,7 +54,7 @@ fn scatter_row(work: &[i32], at: usize, n: usize, green: &mut [u16], from: usize
 
 // All rows of a small plane back to their places in green.
 fn scatter(work: &[i32], columns: usize, rows: usize, green: &mut [u16], from: usize, down: usize)
-    requires { ⌜ Narrow (now work) 0 (columns * rows) × SecondRows (now green) from down columns rows ⌝ }
+    requires { ⌜ Narrow (now work) 0 (columns * rows) × InPlane (now green) from columns rows down 2 ⌝ }
     ensures { λ _. ⌜ now (green .exit) ≡ put (now (green .entry)) (columns * rows) (place from down columns) (λ k. natAbs (value (now (work .entry)) k)) ⌝ }
 {
     let mut i = 0;
@@ -190,14 +174,14 @@ pub fn update(
     mosaic: &[u16],
     green: &mut [u16],
     work: &mut [i32],
-) -> UpdateAnswer
-    ensures { λ r. ⌜ UpdateResult ceiling (frame width height layout (now (mosaic .entry))) (now (green .entry)) (now (work .entry)) r (now (green .exit)) (now (work .exit)) ⌝ }
+) -> Answer
+    ensures { λ r. ⌜ Result (update-call ceiling (frame width height layout (now (mosaic .entry))) (now (green .entry)) (now (work .entry))) r (now (green .exit), now (work .exit)) ⌝ }
 {
     let top = 4095;
     let refusal = update_refusal(top, width, height, layout, mosaic, green, work.len());
     if refusal != 0 {
-        return UpdateAnswer::Refused(refusal);
+        return Answer::Refused(refusal);
     }
     update_colours(top, width, height, layout, mosaic, green, work);
-    UpdateAnswer::Accepted
+    Answer::Accepted
 }

@@ -15,13 +15,12 @@ use Rattle.integers.specs.Lists.{overwrite}
 use Rattle.integers.specs.Numbers.{clamp}
 use Rattle.integers.proofs.Clamping.{clamp-sample}
 use Rattle.integers.proofs.Lists.{length-overwrite, overwrite-in, overwrite-at, overwrite-cong, overwrite-again}
-use Rattle.turns.specs.Frames.{plane-of}
-use Rattle.turns.proofs.Commuting.{Agree}
-use Rattle.turns.proofs.Frames.{row-inside, column-inside, place-inside as cell-inside}
-use Rattle.lines.specs.Lines.{value}
-use Rattle.work_buffer.specs.Places.{places, place, sample, put, Narrow}
-use Rattle.work_buffer.specs.Buffer.{with-plane, zeroed}
-use Rattle.work_buffer.proofs.Places.{length-put, row-place, small-place, put-colour, put-after}
+use Rattle.planes.specs.Planes.{plane-of, Agree}
+use Rattle.planes.specs.Lists.{value, sample, put}
+use Rattle.planes.specs.Places.{half, place}
+use Rattle.planes.proofs.Planes.{row-inside, column-inside, place-inside}
+use Rattle.planes.proofs.Places.{length-put, row-place, small-place, put-colour, put-after}
+use Rattle.work_buffer.specs.Buffer.{with-plane, zeroed, Narrow}
 
 module _ (w h : ℕ) (work : List ℤ) (room : w * h ≤ length work) where
   pub length-with-plane : (p : ℕ → ℕ → ℤ) → length (with-plane w h p work) ≡ length work
@@ -36,7 +35,7 @@ module _ (w h : ℕ) (work : List ℤ) (room : w * h ≤ length work) where
   -- it holds the plane
   pub plane-with : (p : ℕ → ℕ → ℤ) → Agree w h (plane-of (pos 0) w (with-plane w h p work)) p
   unfolding plane-of
-  plane-with p r c hr hc = with-plane-at p (r * w + c) (cell-inside hr hc) ∙ (λ i. p (digits-div r hc i) (digits-mod r hc i))
+  plane-with p r c hr hc = with-plane-at p (r * w + c) (place-inside hr hc) ∙ (λ i. p (digits-div r hc i) (digits-mod r hc i))
 
   -- planes that agree inside
   pub with-plane-agree : {p q : ℕ → ℕ → ℤ} → Agree w h p q → with-plane w h p work ≡ with-plane w h q work
@@ -89,18 +88,18 @@ loaded w h plane work e q =
 
 -- those at a colour's places
 pub put-samples : (w h a b : ℕ) → a < 2 → b < 2 → (mosaic : List ℕ) (work : List ℤ) → w * h ≤ length work → {l : List ℤ}
-    → let at = place (a * w + b) (2 * w) (places w b) in l ≡ put work (places w b * places h a) at (λ k. sample mosaic (at k))
+    → let at = place (a * w + b) (2 * w) (half w b) in l ≡ put work (half w b * half h a) at (λ k. sample mosaic (at k))
     → l ≡ with-plane w h (λ r c. cond (eqb (r % 2) a && eqb (c % 2) b) (pos (plane-of 0 w mosaic r c)) (plane-of (pos 0) w work r c)) work
 put-samples w h a b ha hb mosaic work room {l} e =
-    with-plane-is w h work room _ (ap length e ∙ length-put work (places w b * places h a) at (λ k. sample mosaic (at k)))
+    with-plane-is w h work room _ (ap length e ∙ length-put work (half w b * half h a) at (λ k. sample mosaic (at k)))
     (λ k hk. ap (λ (x : List ℤ). value x k) e ∙ put-colour w h a b ha hb (pos 0) work (λ k. sample mosaic (at k)) (λ r c. pos (plane-of 0 w mosaic r c)) there k hk room ∙ ap (cond (eqb (k / w % 2) a && eqb (k % w % 2) b) (pos (plane-of 0 w mosaic (k / w) (k % w)))) (own k))
     (λ k past hk. ap (λ (x : List ℤ). value x k) e ∙ put-after w h a b ha hb (pos 0) work (λ k. sample mosaic (at k)) k past hk)
   where
     at : ℕ → ℕ
-    at = place (a * w + b) (2 * w) (places w b)
+    at = place (a * w + b) (2 * w) (half w b)
 
-    there : (i j : ℕ) → i < places h a → j < places w b → sample mosaic (at (i * places w b + j)) ≡ pos (plane-of 0 w mosaic (2 * i + a) (2 * j + b))
-    there i j hi hj = unfold sample plane-of in ap (λ (n : ℕ). pos (getD mosaic n 0)) (row-place (a * w + b) (2 * w) (places w b) i j hj ∙ small-place w a b i j)
+    there : (i j : ℕ) → i < half h a → j < half w b → sample mosaic (at (i * half w b + j)) ≡ pos (plane-of 0 w mosaic (2 * i + a) (2 * j + b))
+    there i j hi hj = unfold sample plane-of in ap (λ (n : ℕ). pos (getD mosaic n 0)) (row-place (a * w + b) (2 * w) (half w b) i j hj ∙ small-place w a b i j)
 
     own : (k : ℕ) → value work k ≡ plane-of (pos 0) w work (k / w) (k % w)
     own k = unfold plane-of in ap (value work) (sym (div-add-mod' k w))

@@ -1,14 +1,18 @@
 -- `bank::join` meets its contract: one check, one branch, and then the sums.
 -- Assumes nothing.
+use mathlib.Core.Path.{refl}
 use mathlib.Core.List.{List}
 use native.Mathlib.Omega.{arith}
 use lib.IntN.{ℤ}
 use lib.ListN.{length}
 use denote.Ref.{now}
 use borrow.Author.Needs.{needs}
+use Rattle.questions.specs.Calls.{Call}
+use Rattle.questions.specs.declared.Answer.{Answer}
+use Rattle.questions.proofs.Answering.{refuses, accepts}
 use Rattle.filters.specs.Bank.{Bands}
-use Rattle.bank.specs.Calls.{bands, join-list}
-use Rattle.bank.proofs.Calls.{Joinable, joinable, join-no, join-yes}
+use Rattle.bank.specs.Calls.{bands, join-list, join-call}
+use Rattle.bank.proofs.Calls.{Joinable, joinable}
 use Rattle.bank.proofs.join.Statement.{statement}
 use Rattle.bank.proofs.join.Tie as tie
 
@@ -19,10 +23,12 @@ join-refusal-requires c κs = search needs
 abbrev Given : tie.Start → Bands (List ℤ)
 Given s = let a = s .args in bands (now (a .band1)) (now (a .band2)) (now (a .band3)) (now (a .band4))
 
+-- the call, by where it starts
+abbrev call : tie.Start → Call Answer (List ℤ)
+call s = let a = s .args in join-call (a .width) (a .height) (Given s) (now (a .sums))
+
 returns : tie.Need-returns
-returns c =
-    let a = c .before .before .args in
-    join-no (a .width) (a .height) (Given (c .before .before)) (now (a .sums)) (c .before .join-refusal .result) (c .before .join-refusal .ensures) (c .if1 .taken)
+returns c = refuses (call (c .before .before)) _ (c .before .join-refusal .ensures) (c .if1 .taken)
 
 slice-aggregate-join-rows : tie.Need-slice-aggregate-join-rows
 slice-aggregate-join-rows c = search needs
@@ -46,10 +52,8 @@ same-length c = search needs
 returns-2 : tie.Need-returns-2
 unfolding join-list
 returns-2 c =
-    let s = c .before .before .before .before .before .before .before .before .before in
-    let a = s .args in
-    let t = c .before .before .before .before .before .before .before .before .join-refusal in
-    join-yes (a .width) (a .height) (Given s) (now (a .sums)) (t .result) (t .ensures) (c .before .before .before .before .before .before .before .if1 .left) _ (c .before .before .before .join-rows .ensures)
+    let k = c .before .before .before .before .before .before .before in
+    accepts (call (k .before .before)) (k .before .join-refusal .result) (k .before .join-refusal .ensures) (k .if1 .left) refl refl (c .before .before .before .join-rows .ensures)
 
 pub join-spec : {M : Type 1} → statement M
 join-spec =

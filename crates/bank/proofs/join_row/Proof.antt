@@ -8,7 +8,7 @@ use lib.IntN.{ℤ}
 use lib.ListN.{length}
 use denote.Ref.{now}
 use borrow.Author.Needs.{needs}
-use Rattle.turns.proofs.Frames.{row-room}
+use Rattle.planes.proofs.Planes.{row-room}
 use Rattle.lines.specs.Lines.{Runs}
 use Rattle.bank.specs.Calls.{bands}
 use Rattle.bank.proofs.Rows.{row-small, NearFive, starts, five-rows, joined-run, sums-laid}

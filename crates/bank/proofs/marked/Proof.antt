@@ -9,7 +9,7 @@ use mir.Syntax.{w32}
 use mir.Val.{toZ, ofZ}
 use mir.Facts.{toZ-ofZ as back}
 use Rattle.integers.proofs.Bounds.{fits, bounds}
-use Rattle.lines.specs.Lines.{value}
+use Rattle.planes.specs.Lists.{value}
 use Rattle.bank.proofs.Calls.{beyond-below, beyond-above, not-beyond}
 use Rattle.bank.proofs.marked.Statement.{statement}
 use Rattle.bank.proofs.marked.Tie as tie

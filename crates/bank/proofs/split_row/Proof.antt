@@ -6,7 +6,7 @@ use native.Mathlib.Omega.{arith}
 use lib.ListN.{length}
 use denote.Ref.{now}
 use borrow.Author.Needs.{needs}
-use Rattle.turns.proofs.Frames.{row-room}
+use Rattle.planes.proofs.Planes.{row-room}
 use Rattle.filters.specs.Bank.{split, low-split, high-split}
 use Rattle.filters.proofs.Ranges.{gain}
 use Rattle.bank.proofs.Rows.{row-small, Near, three-rows, three-run, band-laid}

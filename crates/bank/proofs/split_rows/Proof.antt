@@ -6,7 +6,7 @@ use native.Mathlib.Omega.{arith}
 use lib.IntN.{ℤ}
 use lib.ListN.{length}
 use denote.Ref.{now}
-use Rattle.turns.proofs.Frames.{overwrite-no-row, rows-laid, row-laid, all-laid}
+use Rattle.planes.proofs.Planes.{overwrite-no-row, rows-laid, row-laid, all-laid}
 use Rattle.filters.specs.Bank.{Bands, split}
 use Rattle.bank.specs.Planes.{plane}
 use Rattle.bank.proofs.split_rows.Statement.{statement}

@@ -13,9 +13,9 @@ use mir.Val.{toZ, ofZ}
 use mir.Facts.{toZ-ofZ as back}
 use borrow.Author.Needs.{needs}
 use Rattle.integers.specs.Lists.{tabulate}
+use Rattle.planes.specs.Lists.{value}
 use Rattle.questions.specs.Questions.{all-at-most}
 use Rattle.questions.proofs.Asking.{mark-none, mark-more}
-use Rattle.lines.specs.Lines.{value}
 use Rattle.filters.specs.Bank.{Distance}
 use Rattle.bank.proofs.Calls.{magnitudes}
 use Rattle.bank.proofs.values_within.Statement.{statement}

@@ -1,8 +1,8 @@
 -- `demand_3::finish_turned` meets its contract: demand 3, with the turning calls that ran.
 -- Assumes nothing.
 use denote.Ref.{now}
-use Rattle.turns.specs.Frames.{frame}
-use Rattle.work_buffer.specs.Lent.{lent}
+use Rattle.planes.specs.Planes.{frame}
+use Rattle.questions.specs.Lent.{lent}
 use Rattle.demand_3.proofs.Moving.{run-alike}
 use borrow.Author.Needs.{needs}
 use Rattle.demand_3.proofs.finish_turned.Statement.{statement}

@@ -2,7 +2,7 @@
 -- Assumes nothing.
 use mathlib.Core.Path.{sym}
 use lib.Seq.{length-take-le}
-use Rattle.program.proofs.Pages.{written-within}
+use Rattle.program.proofs.Printed.{written-within}
 use borrow.Author.Needs.{needs}
 use Rattle.demosaic.proofs.main.Statement.{statement}
 use Rattle.demosaic.proofs.main.Tie as tie

@@ -1,7 +1,7 @@
 -- `demosaic_c::demosaic_join` meets its contract: the join call's.
 -- Assumes nothing.
-use mathlib.Core.Path.{_∙_}
 use borrow.Author.Needs.{needs}
+use Rattle.questions.proofs.Answering.{to-number}
 use Rattle.demosaic_c.proofs.demosaic_join.Statement.{statement}
 use Rattle.demosaic_c.proofs.demosaic_join.Tie as tie
 
@@ -15,7 +15,7 @@ same-length : tie.Need-same-length
 same-length c = search needs
 
 returns : tie.Need-returns
-returns c = let e = c .before .before .join .ensures in record { number = c .number .ensures ∙ e .answer .number; leaves = e .leaves }
+returns c = to-number _ (c .before .before .join .ensures) (c .number .ensures)
 
 pub demosaic-join-spec : {M : Type 1} → statement M
 demosaic-join-spec = tie.close (tie.spec join-requires number-requires same-length returns)

@@ -1,6 +1,7 @@
 -- `demosaic_c::demosaic_packet_samples` meets its contract: the mosaic reader's.
 -- Assumes nothing.
-use mathlib.Core.Path.{ap, sym, _∙_}
+use mathlib.Core.Path.{ap, sym}
+use Rattle.questions.proofs.Answering.{to-number}
 use Rattle.packet.specs.Calls.{number-of-read}
 use borrow.Author.Needs.{needs}
 use Rattle.demosaic_c.proofs.demosaic_packet_samples.Statement.{statement}
@@ -20,16 +21,14 @@ same-length c = search needs
 
 returns : tie.Need-returns
 returns c =
-    let e = c .before .before .before .before .before .read-mosaic .ensures in
-    record { number = ap number-of-read (sym (c .before .answer .given .1)) ∙ e .answer .number; leaves = e .buffer }
+    to-number _ (c .before .before .before .before .before .read-mosaic .ensures) (ap number-of-read (sym (c .before .answer .given .1)))
 
 same-length-2 : tie.Need-same-length-2
 same-length-2 c = search needs
 
 returns-2 : tie.Need-returns-2
 returns-2 c =
-    let e = c .before .before .before .before .read-mosaic .ensures in
-    record { number = ap number-of-read (sym (c .enum-told .given .1)) ∙ e .answer .number; leaves = e .buffer }
+    to-number _ (c .before .before .before .before .read-mosaic .ensures) (ap number-of-read (sym (c .enum-told .given .1)))
 
 pub demosaic-packet-samples-spec : {M : Type 1} → statement M
 demosaic-packet-samples-spec =

@@ -1,6 +1,6 @@
 -- `demosaic_c::demosaic_packet_write` meets its contract: the writer's, and its count.
 -- Assumes nothing.
-use Rattle.demosaic_c.proofs.Returns.{packet-returned}
+use Rattle.demosaic_c.proofs.Returns.{length-returned}
 use Rattle.demosaic_c.proofs.Wide.{write-returned}
 use denote.Ref.{now}
 use borrow.Author.Needs.{needs}
@@ -30,7 +30,7 @@ returns c =
     let e = c .before .before .before .before .before in
     let cut = e .before .before in
     let a = cut .before .before .before .before .args in
-    write-returned _ _ _ (now (a .samples)) (cut .before .byte .ensures) _ _ (cut .cut-settings .ensures) (now (a .out)) (now (a .written)) (packet-returned _ _ _ _ (e .write-packet .ensures) _ (c .before .answer .given .1))
+    write-returned _ _ _ (now (a .samples)) (cut .before .byte .ensures) _ _ (cut .cut-settings .ensures) (now (a .out)) (now (a .written)) (length-returned _ _ _ _ (e .write-packet .ensures) _ (c .before .answer .given .1))
 
 same-length-2 : tie.Need-same-length-2
 same-length-2 c = search needs
@@ -40,7 +40,7 @@ returns-2 c =
     let e = c .before .before .before .before .before in
     let cut = e .before .before in
     let a = cut .before .before .before .before .args in
-    write-returned _ _ _ (now (a .samples)) (cut .before .byte .ensures) _ _ (cut .cut-settings .ensures) (now (a .out)) (now (a .written)) (packet-returned _ _ _ _ (e .write-packet .ensures) _ (c .before .answer2 .given .1))
+    write-returned _ _ _ (now (a .samples)) (cut .before .byte .ensures) _ _ (cut .cut-settings .ensures) (now (a .out)) (now (a .written)) (length-returned _ _ _ _ (e .write-packet .ensures) _ (c .before .answer2 .given .1))
 
 pub demosaic-packet-write-spec : {M : Type 1} → statement M
 demosaic-packet-write-spec =

@@ -1,7 +1,7 @@
 -- `demosaic_c::demosaic_split` meets its contract: the split call's.
 -- Assumes nothing.
-use mathlib.Core.Path.{_∙_}
 use borrow.Author.Needs.{needs}
+use Rattle.questions.proofs.Answering.{to-number}
 use Rattle.demosaic_c.proofs.demosaic_split.Statement.{statement}
 use Rattle.demosaic_c.proofs.demosaic_split.Tie as tie
 
@@ -24,7 +24,7 @@ same-length-4 : tie.Need-same-length-4
 same-length-4 c = search needs
 
 returns : tie.Need-returns
-returns c = let e = c .before .before .before .before .before .split .ensures in record { number = c .number .ensures ∙ e .answer .number; leaves = e .leaves }
+returns c = to-number _ (c .before .before .before .before .before .split .ensures) (c .number .ensures)
 
 pub demosaic-split-spec : {M : Type 1} → statement M
 demosaic-split-spec =

@@ -15,7 +15,7 @@ use mir.Facts.{toZ-ofZ as back}
 use Rattle.integers.specs.Lists.{overwrite}
 use Rattle.integers.proofs.Lists.{overwrite-none, overwrite-step, overwrite-after}
 use Rattle.integers.proofs.Bounds.{fits, read-is, read-bound, abs-read}
-use Rattle.lines.specs.Lines.{value}
+use Rattle.planes.specs.Lists.{value}
 use Rattle.lines.proofs.Lines.{read-value}
 use Rattle.details.specs.Details.{crossed, settled}
 use Rattle.details.proofs.Details.{crossing-range}

@@ -9,8 +9,8 @@ use denote.Ref.{now}
 use borrow.Author.Needs.{needs}
 use Rattle.integers.specs.Lists.{overwrite}
 use Rattle.integers.proofs.Lists.{overwrite-none, overwrite-step}
-use Rattle.turns.specs.Frames.{plane-of}
-use Rattle.turns.specs.Layout.{on-red-row, on-red-column}
+use Rattle.planes.specs.Planes.{plane-of}
+use Rattle.planes.specs.Layout.{on-red-row, on-red-column}
 use Rattle.neighbourhood.specs.Place.{neighbourhood, around, bilinear}
 use Rattle.neighbourhood.proofs.Neighbours.{inner-from}
 use Rattle.estimate.proofs.Parts.{part-room, part-laid}

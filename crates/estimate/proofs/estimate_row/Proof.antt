@@ -6,8 +6,8 @@ use native.Mathlib.Omega.{arith}
 use denote.Ref.{now}
 use borrow.Author.Needs.{needs}
 use borrow.Author.Tests.{ltb-true}
-use Rattle.turns.specs.Frames.{plane-of, Planes}
-use Rattle.turns.proofs.Frames.{row-room}
+use Rattle.planes.specs.Planes.{plane-of, Planes}
+use Rattle.planes.proofs.Planes.{row-room}
 use Rattle.estimate.specs.Estimates.{estimate}
 use Rattle.estimate.proofs.Parts.{one-part}
 use Rattle.estimate.proofs.estimate_row.Statement.{statement}

@@ -5,10 +5,9 @@ use Prim.Native.Nat.{ℕ, _-_, _≤_}
 use native.Mathlib.Omega.{arith}
 use lib.ListN.{length}
 use denote.Ref.{now}
-use Rattle.turns.specs.Frames.{plane-of, Planes}
-use Rattle.turns.proofs.Frames.{overwrite-no-row}
+use Rattle.planes.specs.Planes.{plane-of, Planes}
+use Rattle.planes.proofs.Planes.{overwrite-no-row, rows-laid, row-laid, all-laid}
 use Rattle.estimate.specs.Estimates.{estimate}
-use Rattle.turns.proofs.Frames.{rows-laid, row-laid, all-laid}
 use Rattle.estimate.proofs.estimate_rows.Statement.{statement}
 use Rattle.estimate.proofs.estimate_rows.Tie as tie
 

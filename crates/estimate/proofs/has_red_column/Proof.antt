@@ -2,7 +2,7 @@
 -- Assumes nothing.
 use mathlib.Core.Path.{refl}
 use borrow.Author.Needs.{needs}
-use Rattle.turns.specs.Layout.{red-column, on-red-column}
+use Rattle.planes.specs.Layout.{red-column, on-red-column}
 use Rattle.estimate.proofs.has_red_column.Statement.{statement}
 use Rattle.estimate.proofs.has_red_column.Tie as tie
 

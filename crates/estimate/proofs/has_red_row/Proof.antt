@@ -2,7 +2,7 @@
 -- Assumes nothing.
 use mathlib.Core.Path.{refl}
 use borrow.Author.Needs.{needs}
-use Rattle.turns.specs.Layout.{red-row, on-red-row}
+use Rattle.planes.specs.Layout.{red-row, on-red-row}
 use Rattle.estimate.proofs.has_red_row.Statement.{statement}
 use Rattle.estimate.proofs.has_red_row.Tie as tie
 

@@ -6,9 +6,9 @@ use Prim.Native.Nat.{ℕ, _+_, _*_, _≤_}
 use native.Mathlib.Omega.{arith}
 use denote.Ref.{now}
 use borrow.Author.Needs.{needs}
-use Rattle.turns.specs.Layout.{on-red-row, on-red-column}
-use Rattle.turns.specs.Frames.{plane-of, Planes}
-use Rattle.turns.proofs.Frames.{row-room}
+use Rattle.planes.specs.Layout.{on-red-row, on-red-column}
+use Rattle.planes.specs.Planes.{plane-of, Planes}
+use Rattle.planes.proofs.Planes.{row-room}
 use Rattle.neighbourhood.specs.Place.{neighbourhood, around, bilinear}
 use Rattle.estimate.specs.Estimates.{estimate}
 use Rattle.estimate.proofs.Parts.{three-parts}

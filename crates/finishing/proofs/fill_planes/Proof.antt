@@ -1,9 +1,9 @@
 -- `finishing::fill_planes` meets its contract: the three calls, each given what the one before it left.
 -- Assumes nothing.
 use denote.Ref.{now}
+use Rattle.planes.specs.Planes.{frame}
 use Rattle.questions.specs.Settings.{ceiling-of}
-use Rattle.turns.specs.Frames.{frame}
-use Rattle.work_buffer.specs.Lent.{lent}
+use Rattle.questions.specs.Lent.{lent}
 use Rattle.finishing.proofs.Parts.{parts-leave}
 use borrow.Author.Needs.{needs}
 use Rattle.finishing.proofs.fill_planes.Statement.{statement}

@@ -4,10 +4,10 @@ use mathlib.Core.Path.{_∙_, ap}
 use Prim.Native.Nat.{ℕ}
 use denote.Ref.{now}
 use borrow.Author.Needs.{needs}
+use Rattle.planes.specs.Planes.{frame}
+use Rattle.questions.specs.Lent.{lent}
 use Rattle.tally.specs.Tally.{next-tally}
-use Rattle.turns.specs.Frames.{frame}
-use Rattle.work_buffer.specs.Lent.{lent}
-use Rattle.finishing.specs.Calls.{finish-call}
+use Rattle.finishing.specs.Calls.{finish-given}
 use Rattle.finishing.proofs.Calls.{counted}
 use Rattle.finishing.proofs.finish.Statement.{statement}
 use Rattle.finishing.proofs.finish.Tie as tie
@@ -50,7 +50,7 @@ returns c =
     let done = rounds .before .before .before .before .before .before .before .before in
     let s = done .before .before .before .before .before .before .before .before .before in
     let a = s .args in
-    counted (finish-call (frame (a .width) (a .height) (a .layout) (now (a .mosaic))) (a .settings) (lent (now (a .red)) (now (a .green)) (now (a .blue)) (now (a .work))) (a .tally))
+    counted (finish-given (frame (a .width) (a .height) (a .layout) (now (a .mosaic))) (a .settings) (lent (now (a .red)) (now (a .green)) (now (a .blue)) (now (a .work))) (a .tally))
     (done .finish-frame .result) (done .finish-frame .ensures) (rounds .rounds-to-run .ensures)
     (next .next .ensures ∙ ap (λ (n : ℕ). next-tally n (rounds .rounds-to-run .result) (a .tally)) (number .number .ensures)) (c .with-tally .ensures)
 

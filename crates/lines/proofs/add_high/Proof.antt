@@ -15,9 +15,10 @@ use borrow.Author.Needs.{needs}
 use Rattle.integers.specs.Lists.{overwrite}
 use Rattle.integers.proofs.Lists.{overwrite-none, overwrite-step}
 use Rattle.integers.proofs.Bounds.{fits, bounds, read-is}
+use Rattle.planes.specs.Lists.{value}
 use Rattle.filters.specs.Bank.{high-join}
 use Rattle.filters.proofs.Ranges.{gain}
-use Rattle.lines.specs.Lines.{value, five}
+use Rattle.lines.specs.Lines.{five}
 use Rattle.lines.proofs.Lines.{outside, five-small, five-read, five-range}
 use Rattle.lines.proofs.add_high.Statement.{statement}
 use Rattle.lines.proofs.add_high.Tie as tie

@@ -12,7 +12,8 @@ use mir.Val.{toZ, ofZ}
 use borrow.Author.Needs.{needs}
 use Rattle.integers.specs.Lists.{overwrite}
 use Rattle.integers.proofs.Lists.{overwrite-none, overwrite-step}
-use Rattle.lines.specs.Lines.{value, meant}
+use Rattle.planes.specs.Lists.{value}
+use Rattle.lines.specs.Lines.{meant}
 use Rattle.lines.proofs.Lines.{outside}
 use Rattle.lines.proofs.pad_side.Statement.{statement}
 use Rattle.lines.proofs.pad_side.Tie as tie

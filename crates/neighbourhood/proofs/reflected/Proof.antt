@@ -4,7 +4,7 @@ use mathlib.Core.Path.{refl, sym}
 use native.Mathlib.Nat.{add-zero}
 use denote.Ref.{now}
 use borrow.Author.Needs.{needs}
-use Rattle.turns.specs.Frames.{plane-of}
+use Rattle.planes.specs.Planes.{plane-of}
 use Rattle.neighbourhood.proofs.Neighbours.{five-rows, row-counted}
 use Rattle.neighbourhood.proofs.reflected.Statement.{statement}
 use Rattle.neighbourhood.proofs.reflected.Tie as tie

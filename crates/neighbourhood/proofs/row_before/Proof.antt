@@ -9,8 +9,8 @@ use denote.Ref.{now}
 use borrow.Author.Needs.{needs}
 use Rattle.integers.specs.Lists.{tabulate}
 use Rattle.border.specs.Border.{reflect}
-use Rattle.turns.specs.Frames.{plane-of}
-use Rattle.turns.proofs.Frames.{row-room}
+use Rattle.planes.specs.Planes.{plane-of}
+use Rattle.planes.proofs.Planes.{row-room}
 use Rattle.neighbourhood.proofs.Neighbours.{five-reflected}
 use Rattle.neighbourhood.proofs.row_before.Statement.{statement}
 use Rattle.neighbourhood.proofs.row_before.Tie as tie

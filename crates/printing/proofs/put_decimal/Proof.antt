@@ -2,16 +2,16 @@
 -- Assumes nothing.
 use Prim.Native.Nat.{_≤_}
 use native.Mathlib.Omega.{arith}
-use Rattle.printing.proofs.Texts.{places-small, decimal-put}
+use Rattle.printing.proofs.Texts.{digits-small, decimal-put}
 use borrow.Author.Needs.{needs}
 use Rattle.printing.proofs.put_decimal.Statement.{statement}
 use Rattle.printing.proofs.put_decimal.Tie as tie
 
-places-requires : tie.Need-places-requires
-places-requires c κs = search needs
+digit-count-requires : tie.Need-digit-count-requires
+digit-count-requires c κs = search needs
 
-small : (c : tie.After-places) → c .places .result ≤ 5
-small c = omega (arith, places-small (c .before .before .args .n))
+small : (c : tie.After-digit-count) → c .digit-count .result ≤ 5
+small c = omega (arith, digits-small (c .before .before .args .n))
 
 put-digits-requires : tie.Need-put-digits-requires
 put-digits-requires c κs = let s = small (c .before) in search needs
@@ -27,8 +27,8 @@ returns c =
     let p = c .before .before .before .before in
     let a = p .before .before .args in
     let s = small p in
-    (decimal-put (a .at) (a .n) (p .places .result) (p .places .ensures) (c .before .before .put-digits .ensures), omega arith)
+    (decimal-put (a .at) (a .n) (p .digit-count .result) (p .digit-count .ensures) (c .before .before .put-digits .ensures), omega arith)
 
 pub put-decimal-spec : {M : Type 1} → statement M
 put-decimal-spec =
-    tie.close (tie.spec places-requires put-digits-requires add-result same-length returns)
+    tie.close (tie.spec digit-count-requires put-digits-requires add-result same-length returns)

@@ -2,7 +2,7 @@
 -- Assumes nothing.
 use denote.Ref.{now}
 use Rattle.program.proofs.Inputs.{sound-fields}
-use Rattle.program.proofs.Pages.{text-no, text-yes}
+use Rattle.program.proofs.Printed.{text-no, text-yes}
 use borrow.Author.Needs.{needs}
 use Rattle.program.proofs.program_text.Statement.{statement}
 use Rattle.program.proofs.program_text.Tie as tie

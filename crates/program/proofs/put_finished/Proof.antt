@@ -67,7 +67,7 @@ put-planes-requires c κs =
           green-room = simp (length-take, length-drop) (omega (arith, k .few));
           blue-room = simp (length-take, length-drop) (omega (arith, k .few));
           work-room = omega (arith, k .few);
-          page-room = omega (arith, k .few);
+          text-room = omega (arith, k .few);
         },
       ),
     )

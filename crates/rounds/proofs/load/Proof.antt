@@ -9,7 +9,7 @@ use mir.Syntax.{w32}
 use Rattle.integers.specs.Lists.{overwrite}
 use Rattle.integers.proofs.Lists.{overwrite-none, overwrite-step}
 use Rattle.integers.proofs.Bounds.{read-is}
-use Rattle.work_buffer.specs.Places.{sample}
+use Rattle.planes.specs.Lists.{sample}
 use Rattle.rounds.proofs.load.Statement.{statement}
 use Rattle.rounds.proofs.load.Tie as tie
 

@@ -7,8 +7,9 @@ use native.Mathlib.Omega.{arith}
 use lib.IntN.{ℤ}
 use lib.ListN.{length}
 use denote.Ref.{now}
-use Rattle.work_buffer.specs.Places.{place, sample, put}
-use Rattle.work_buffer.proofs.Places.{row-place, put-no-row, put-row}
+use Rattle.planes.specs.Places.{place}
+use Rattle.planes.specs.Lists.{sample, put}
+use Rattle.planes.proofs.Places.{row-place, put-no-row, put-row}
 use Rattle.rounds.proofs.observe.Statement.{statement}
 use Rattle.rounds.proofs.observe.Tie as tie
 
@@ -32,7 +33,7 @@ loop-holds c = let s = c .before in (omega arith, put-no-row (now (s .args .work
 -- row i's samples stand in the mosaic
 reach : (c : tie.In-loop Inv-loop μ-loop) (k : ℕ)
     → let s = c .before .before .before in
-    k < s .args .columns → s .args .from + c .before .loop .i * s .args .down + 2 * k < length (now (s .args .mosaic))
+    k < s .args .columns → s .args .from + c .before .loop .i * s .args .down + k * 2 < length (now (s .args .mosaic))
 reach c k b = c .before .before .before .pre .0 .inside (c .before .loop .i) k (c .loop-test .taken) b
 
 mul-observe-row : tie.Need-mul-observe-row Inv-loop μ-loop

@@ -8,8 +8,8 @@ use lib.ListN.{length, length-set}
 use denote.Ref.{now}
 use mir.Syntax.{w32}
 use Rattle.integers.proofs.Bounds.{read-is}
-use Rattle.work_buffer.specs.Places.{sample, put}
-use Rattle.work_buffer.proofs.Places.{put-none, put-step}
+use Rattle.planes.specs.Lists.{sample, put}
+use Rattle.planes.proofs.Places.{put-none, put-step}
 use Rattle.rounds.proofs.observe_row.Statement.{statement}
 use Rattle.rounds.proofs.observe_row.Tie as tie
 
@@ -33,7 +33,7 @@ loop-holds c = let s = c .before in (omega arith, put-none (now (s .args .work))
 -- the sample that is read stands in the mosaic
 reach : (c : tie.In-loop Inv-loop μ-loop)
     → let s = c .before .before .before in s .args .from + 2 * c .before .loop .k < length (now (s .args .mosaic))
-reach c = c .before .before .before .pre .0 .inside (c .before .loop .k) (c .loop-test .taken)
+reach c = omega (arith, c .before .before .before .pre .0 .inside (c .before .loop .k) (c .loop-test .taken))
 
 mul-at : tie.Need-mul-at Inv-loop μ-loop
 mul-at c = let r = reach c in record { fits = omega arith }

@@ -1,11 +1,11 @@
--- `rounds::rewrite` meets its contract: the plane is loaded, goes through the rounds, and is stored.
+-- `rounds::rewrite` meets its contract: the plane is loaded, goes through the rounds, and is unloaded.
 -- Assumes nothing.
 use Prim.Native.Nat.{ℕ, _*_, _≤_}
 use native.Mathlib.Omega.{arith}
 use lib.ListN.{getD, length}
 use denote.Ref.{now}
 use borrow.Author.Needs.{needs}
-use Rattle.rounds.proofs.Working.{first-narrow, first-workable, last-narrow, last-laid, stored}
+use Rattle.rounds.proofs.Working.{first-narrow, first-workable, last-narrow, last-laid, unloaded}
 use Rattle.rounds.proofs.rewrite.Statement.{statement}
 use Rattle.rounds.proofs.rewrite.Tie as tie
 
@@ -33,8 +33,8 @@ run-requires c κs =
       first-narrow (a .colour) (a .top) (now (a .mosaic)) (now (a .green)) (now (a .plane)) (now (a .work)) (room s) (s .pre .3) (l .load .ensures) (plane-small l),
     )
 
-store-requires : tie.Need-store-requires
-store-requires c κs =
+unload-requires : tie.Need-unload-requires
+unload-requires c κs =
     let r = c .before .before .before in
     let l = r .before .before .before in
     let s = l .before .before .before .before .before .before in
@@ -53,11 +53,11 @@ returns c =
     let l = r .before .before .before in
     let s = l .before .before .before .before .before .before in
     let a = s .args in (
-      stored (a .colour) (a .top) (now (a .mosaic)) (now (a .green)) (now (a .plane)) (now (a .work)) (room s) (s .pre .3) (l .load .ensures) _ (r .run .ensures) (c .before .before .store .ensures),
+      unloaded (a .colour) (a .top) (now (a .mosaic)) (now (a .green)) (now (a .plane)) (now (a .work)) (room s) (s .pre .3) (l .load .ensures) _ (r .run .ensures) (c .before .before .unload .ensures),
       last-laid (a .colour) (a .top) (now (a .mosaic)) (now (a .green)) (now (a .plane)) (now (a .work)) (room s) (s .pre .3) (l .load .ensures) _ (r .run .ensures),
     )
 
 pub rewrite-spec : {M : Type 1} → statement M
 rewrite-spec =
     tie.close
-    (tie.spec load-requires run-requires store-requires same-length same-length-2 returns)
+    (tie.spec load-requires run-requires unload-requires same-length same-length-2 returns)

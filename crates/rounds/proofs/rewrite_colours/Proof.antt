@@ -3,10 +3,10 @@
 use native.Mathlib.Omega.{arith}
 use denote.Ref.{now}
 use borrow.Author.Needs.{needs}
+use Rattle.planes.specs.Planes.{frame}
+use Rattle.planes.specs.Layout.{red-row, red-column}
+use Rattle.questions.specs.Lent.{lent}
 use Rattle.questions.proofs.Asking.{area-bound}
-use Rattle.turns.specs.Frames.{frame}
-use Rattle.turns.specs.Layout.{red-row, red-column}
-use Rattle.work_buffer.specs.Lent.{lent}
 use Rattle.work_buffer.specs.Buffer.{zeroed}
 use Rattle.rounds.proofs.Calls.{all-rewritten}
 use Rattle.rounds.proofs.rewrite_colours.Statement.{statement}

@@ -11,10 +11,10 @@ use mir.Val.{toZ, ofZ}
 use mir.Facts.{toZ-pos}
 use borrow.Author.Needs.{needs}
 use Rattle.integers.proofs.Bounds.{read-is}
+use Rattle.planes.specs.Places.{half}
+use Rattle.planes.proofs.Places.{small-rows}
 use Rattle.filters.specs.Bank.{Distance}
 use Rattle.sweep.specs.Planes.{with-projected}
-use Rattle.work_buffer.specs.Places.{places}
-use Rattle.work_buffer.proofs.Places.{small-rows}
 use Rattle.rounds.specs.Rounds.{limit-of}
 use Rattle.rounds.proofs.Working.{given, projectable, round-laid}
 use Rattle.rounds.proofs.round.Statement.{statement}
@@ -75,7 +75,7 @@ mul-observe : tie.Need-mul-observe
 mul-observe c = search needs
 
 observe-requires : tie.Need-observe-requires
-unfolding places
+unfolding half
 observe-requires c κs =
     let s = start (projecting (c .before .before .before .before)) in
     let a = s .args in
@@ -86,7 +86,7 @@ same-length : tie.Need-same-length
 same-length c = search needs
 
 returns : tie.Need-returns
-unfolding places
+unfolding half
 returns c =
     let known = c .before .before .before .before .before .before in
     let p = known .before .before in

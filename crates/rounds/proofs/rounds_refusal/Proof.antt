@@ -6,10 +6,10 @@ use Prim.Native.Nat.{ℕ}
 use borrow.Author.Needs.{needs}
 use denote.Ref.{now}
 use lib.ListN.{length}
+use Rattle.planes.specs.Planes.{frame, planes}
 use Rattle.questions.specs.Questions.{Question, ask}
+use Rattle.questions.specs.Lent.{rooms, lent-questions}
 use Rattle.questions.proofs.Asking.{ask-first, ask-later, all-yes}
-use Rattle.turns.specs.Frames.{frame, planes}
-use Rattle.work_buffer.specs.Lent.{rooms, lent-questions}
 use Rattle.rounds.specs.Calls.{planes-questions}
 use Rattle.rounds.proofs.rounds_refusal.Statement.{statement}
 use Rattle.rounds.proofs.rounds_refusal.Tie as tie

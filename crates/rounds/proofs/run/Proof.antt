@@ -6,10 +6,9 @@ use native.Mathlib.Omega.{arith}
 use lib.IntN.{ℤ, pos}
 use lib.ListN.{length}
 use denote.Ref.{now}
-use Rattle.turns.specs.Frames.{plane-of}
-use Rattle.work_buffer.specs.Places.{Workable}
-use Rattle.work_buffer.specs.Buffer.{with-plane}
-use Rattle.rounds.specs.Rounds.{after-rounds}
+use Rattle.planes.specs.Planes.{plane-of}
+use Rattle.work_buffer.specs.Buffer.{with-plane, Workable}
+use Rattle.rounds.specs.Rounds.{working-plane}
 use Rattle.rounds.specs.Colours.{round-of}
 use Rattle.rounds.proofs.Working.{none-laid, more-laid, after-narrow}
 use Rattle.rounds.proofs.run.Statement.{statement}
@@ -18,7 +17,7 @@ use Rattle.rounds.proofs.run.Tie as tie
 abbrev Inv-loop : tie.InvT-loop
 Inv-loop colour top rounds mosaic green work₀ n₀ work n =
     (n ≤ rounds)
-    × (work ≡ with-plane (colour .width) (colour .height) (after-rounds n (round-of colour top mosaic green) (plane-of (pos 0) (colour .width) work₀)) work₀)
+    × (work ≡ with-plane (colour .width) (colour .height) (working-plane n (round-of colour top mosaic green) (plane-of (pos 0) (colour .width) work₀)) work₀)
     × (length work ≡ length work₀)
 
 abbrev μ-loop : tie.MeasureT-loop
@@ -26,7 +25,7 @@ abbrev μ-loop : tie.MeasureT-loop
 
 -- the working plane after n rounds
 abbrev After : tie.Start Inv-loop μ-loop → ℕ → ℕ → ℕ → ℤ
-After s n = let a = s .args in after-rounds n (round-of (a .colour) (a .top) (now (a .mosaic)) (now (a .green))) (plane-of (pos 0) (a .colour .width) (now (a .work)))
+After s n = let a = s .args in working-plane n (round-of (a .colour) (a .top) (now (a .mosaic)) (now (a .green))) (plane-of (pos 0) (a .colour .width) (now (a .work)))
 
 -- it has room
 room : (s : tie.Start Inv-loop μ-loop) → s .args .colour .width * s .args .colour .height ≤ length (now (s .args .work))

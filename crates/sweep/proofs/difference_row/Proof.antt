@@ -6,7 +6,7 @@ use native.Mathlib.Omega.{arith}
 use lib.ListN.{length}
 use denote.Ref.{now}
 use Rattle.integers.specs.Lists.{overwrite}
-use Rattle.turns.specs.Filling.{InRow}
+use Rattle.planes.specs.Lists.{InRow}
 use Rattle.lines.proofs.Lines.{run-wider}
 use Rattle.details.specs.Details.{difference-line}
 use Rattle.sweep.specs.Rows.{slot, row-at, guide-at}

@@ -10,7 +10,7 @@ use mir.Syntax.{w32}
 use mir.Val.{toZ, ofZ}
 use mir.Facts.{toZ-ofZ as back}
 use Rattle.integers.specs.Lists.{overwrite}
-use Rattle.turns.proofs.Frames.{overwrite-no-row}
+use Rattle.planes.proofs.Planes.{overwrite-no-row}
 use Rattle.sweep.specs.Rows.{row-at, settled-row, with-settled}
 use Rattle.sweep.proofs.Rows.{row-to-settle, rings-to-settle, row-settled}
 use Rattle.sweep.proofs.settle_rows.Statement.{statement}

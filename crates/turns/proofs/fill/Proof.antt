@@ -6,7 +6,7 @@ use native.Mathlib.Nat.{mul-comm}
 use native.Mathlib.Omega.{arith}
 use denote.Ref.{now}
 use borrow.Author.Needs.{needs}
-use Rattle.turns.proofs.Frames.{place-inside}
+use Rattle.planes.proofs.Planes.{place-inside}
 use Rattle.turns.proofs.Calls.{samples-high, samples-low}
 use Rattle.turns.proofs.fill.Statement.{statement}
 use Rattle.turns.proofs.fill.Tie as tie

@@ -7,8 +7,8 @@ use lib.Dec.{eqb}
 use lib.ListN.{length}
 use denote.Ref.{now}
 use Rattle.integers.specs.Lists.{overwrite}
+use Rattle.planes.proofs.Planes.{row-room, overwrite-no-row, overwrite-row, overwrite-plane}
 use Rattle.turns.specs.Filling.{source-row, source-plane}
-use Rattle.turns.proofs.Frames.{row-room, overwrite-no-row, overwrite-row, overwrite-plane}
 use Rattle.turns.proofs.Calls.{plane-sample}
 use Rattle.turns.proofs.fill_rows.Statement.{statement}
 use Rattle.turns.proofs.fill_rows.Tie as tie
@@ -49,7 +49,7 @@ fill-row-requires c κs =
     let s = c .before .before .before .before .before .before in
     let m = c .before .mirrored in
     let r = room (c .before) in
-    (record { inside = λ j b. s .pre .0 .inside (m .result) j (m .ensures .1) b }, omega arith)
+    (record { inside = λ j b. omega (arith, s .pre .0 .inside (m .result) j (m .ensures .1) b) }, omega arith)
 
 add-i : tie.Need-add-i Inv-loop μ-loop
 add-i c = omega arith

@@ -8,8 +8,9 @@ use lib.IntN.{ℤ}
 use lib.ListN.{length}
 use denote.Ref.{now}
 use Rattle.integers.specs.Lists.{overwrite}
-use Rattle.turns.proofs.Frames.{row-room, overwrite-no-row, overwrite-row}
-use Rattle.work_buffer.specs.Places.{place, sample}
+use Rattle.planes.specs.Places.{place}
+use Rattle.planes.specs.Lists.{sample}
+use Rattle.planes.proofs.Planes.{row-room, overwrite-no-row, overwrite-row}
 use Rattle.update.proofs.gather.Statement.{statement}
 use Rattle.update.proofs.gather.Tie as tie
 
@@ -37,7 +38,7 @@ room c =
 
 reach : (c : tie.In-loop Inv-loop μ-loop) (k : ℕ)
     → let s = c .before .before .before in
-    k < s .args .columns → s .args .from + c .before .loop .i * s .args .down + 2 * k < length (now (s .args .green))
+    k < s .args .columns → s .args .from + c .before .loop .i * s .args .down + k * 2 < length (now (s .args .green))
 reach c k b = c .before .before .before .pre .0 .inside (c .before .loop .i) k (c .loop-test .taken) b
 
 mul-gather-row : tie.Need-mul-gather-row Inv-loop μ-loop

@@ -10,7 +10,7 @@ use mir.Syntax.{w32}
 use Rattle.integers.specs.Lists.{overwrite}
 use Rattle.integers.proofs.Lists.{overwrite-none, overwrite-step}
 use Rattle.integers.proofs.Bounds.{read-is}
-use Rattle.work_buffer.specs.Places.{sample}
+use Rattle.planes.specs.Lists.{sample}
 use Rattle.update.proofs.gather_row.Statement.{statement}
 use Rattle.update.proofs.gather_row.Tie as tie
 
@@ -31,7 +31,7 @@ loop-holds c = let s = c .before in (omega arith, overwrite-none (now (s .args .
 -- the sample that is read stands in the list
 reach : (c : tie.In-loop Inv-loop μ-loop)
     → let s = c .before .before .before in s .args .from + 2 * c .before .loop .k < length (now (s .args .green))
-reach c = c .before .before .before .pre .0 .inside (c .before .loop .k) (c .loop-test .taken)
+reach c = omega (arith, c .before .before .before .pre .0 .inside (c .before .loop .k) (c .loop-test .taken))
 
 mul-widened : tie.Need-mul-widened Inv-loop μ-loop
 mul-widened c = let r = reach c in record { fits = omega arith }

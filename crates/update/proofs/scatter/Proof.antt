@@ -9,10 +9,10 @@ use lib.IntN.{natAbs}
 use lib.Signed.{nonNeg}
 use lib.ListN.{length}
 use denote.Ref.{now}
-use Rattle.lines.specs.Lines.{value}
-use Rattle.turns.proofs.Frames.{row-room}
-use Rattle.work_buffer.specs.Places.{place, put}
-use Rattle.work_buffer.proofs.Places.{put-no-row, put-row}
+use Rattle.planes.specs.Lists.{value, put}
+use Rattle.planes.specs.Places.{place}
+use Rattle.planes.proofs.Planes.{row-room}
+use Rattle.planes.proofs.Places.{put-no-row, put-row}
 use Rattle.update.proofs.scatter.Statement.{statement}
 use Rattle.update.proofs.scatter.Tie as tie
 
@@ -36,7 +36,7 @@ room c =
 
 reach : (c : tie.In-loop Inv-loop μ-loop) (k : ℕ)
     → let s = c .before .before .before in
-    k < s .args .columns → s .args .from + c .before .loop .i * s .args .down + 2 * k < length (now (s .args .green))
+    k < s .args .columns → s .args .from + c .before .loop .i * s .args .down + k * 2 < length (now (s .args .green))
 reach c k b = c .before .before .before .pre .1 .inside (c .before .loop .i) k (c .loop-test .taken) b
 
 mul-scatter-row : tie.Need-mul-scatter-row Inv-loop μ-loop

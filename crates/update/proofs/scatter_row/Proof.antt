@@ -11,9 +11,8 @@ use denote.Ref.{now}
 use mir.Syntax.{w32}
 use mir.Val.{toZ, ofZ}
 use borrow.Author.Needs.{needs}
-use Rattle.lines.specs.Lines.{value}
-use Rattle.work_buffer.specs.Places.{put}
-use Rattle.work_buffer.proofs.Places.{put-none, put-step}
+use Rattle.planes.specs.Lists.{value, put}
+use Rattle.planes.proofs.Places.{put-none, put-step}
 use Rattle.update.proofs.scatter_row.Statement.{statement}
 use Rattle.update.proofs.scatter_row.Tie as tie
 
@@ -41,7 +40,7 @@ inside c = let s = c .before .before .before in omega (arith, s .pre .0 .inside,
 
 reach : (c : tie.In-loop Inv-loop μ-loop)
     → let s = c .before .before .before in s .args .from + 2 * c .before .loop .k < length (now (s .args .green))
-reach c = c .before .before .before .pre .1 .inside (c .before .loop .k) (c .loop-test .taken)
+reach c = omega (arith, c .before .before .before .pre .1 .inside (c .before .loop .k) (c .loop-test .taken))
 
 add-narrowed : tie.Need-add-narrowed Inv-loop μ-loop
 add-narrowed c = let r = inside c in record { fits = omega arith }

@@ -3,9 +3,9 @@
 use native.Mathlib.Omega.{arith}
 use denote.Ref.{now}
 use borrow.Author.Needs.{needs}
-use Rattle.turns.specs.Layout.{red-row, red-column}
+use Rattle.planes.specs.Layout.{red-row, red-column}
 use Rattle.work_buffer.specs.Buffer.{zeroed}
-use Rattle.update.proofs.Calls.{both-colours, all-zero}
+use Rattle.update.proofs.Calls.{both-colours, work-zeroed}
 use Rattle.update.proofs.update_colours.Statement.{statement}
 use Rattle.update.proofs.update_colours.Tie as tie
 
@@ -51,7 +51,7 @@ returns c =
     let a = s .args in
     let u = s .pre in (
       both-colours _ (a .width) (a .height) (a .layout) (now (a .mosaic)) (now (a .green)) (first .update-places .ensures .0) (second .update-places2 .ensures .0),
-      all-zero _ (a .width) (a .height) _ _ _ _ (now (a .mosaic)) (now (a .green)) _ (now (a .work)) (omega (arith, u .width-from)) (omega (arith, u .height-from)) (u .work) (first .update-places .ensures .1) (second .update-places2 .ensures .1) (c .before .zero .ensures),
+      work-zeroed _ (a .width) (a .height) _ _ _ _ (now (a .mosaic)) (now (a .green)) _ (now (a .work)) (omega (arith, u .width-from)) (omega (arith, u .height-from)) (u .work) (first .update-places .ensures .1) (second .update-places2 .ensures .1) (c .before .zero .ensures),
     )
 
 pub update-colours-spec : {M : Type 1} → statement M

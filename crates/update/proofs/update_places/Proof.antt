@@ -11,9 +11,9 @@ use mir.Syntax.{w32}
 use mir.Val.{toZ}
 use mir.Facts.{toZ-pos}
 use borrow.Author.Needs.{needs}
+use Rattle.planes.specs.Places.{half}
+use Rattle.planes.proofs.Places.{few-places, small-rows}
 use Rattle.sweep.specs.Planes.{with-projected}
-use Rattle.work_buffer.specs.Places.{places}
-use Rattle.work_buffer.proofs.Places.{few-places, small-rows}
 use Rattle.update.specs.Places.{with-mixed}
 use Rattle.update.proofs.Places.{given, projectable, mixed-laid, mixed-narrow, green-laid}
 use Rattle.update.proofs.update_places.Statement.{statement}
@@ -49,14 +49,14 @@ cast-most c = search needs
 
 -- the small plane has room in the work buffer
 room : (s : tie.Start)
-    → let a = s .args in places (a .width) (a .b) * places (a .height) (a .a) ≤ length (now (a .work))
+    → let a = s .args in half (a .width) (a .b) * half (a .height) (a .a) ≤ length (now (a .work))
 room s =
     let a = s .args in
     let u = s .pre .0 in
     omega (arith, few-places (a .width) (a .height) (a .a) (a .b) (omega (arith, u .width-from)) (omega (arith, u .height-from)), u .work)
 
 gather-requires : tie.Need-gather-requires
-unfolding places
+unfolding half
 gather-requires c κs =
     let s = c .before .before .before .before in
     let a = s .args in
@@ -71,7 +71,7 @@ abbrev begun : tie.After-gather → tie.Start
 begun g = g .before .before .before .before .before
 
 project-requires : tie.Need-project-requires
-unfolding places
+unfolding half
 project-requires c κs =
     let g = gathered c in
     let k = g .before .before .before in
@@ -81,7 +81,7 @@ project-requires c κs =
 
 -- what the projection leaves
 mixed : (p : tie.After-project) → let a = begun (gathered (p .before)) .args in p .project .last .0 ≡ with-mixed (a .top) (a .width) (a .height) (a .a) (a .b) (now (a .mosaic)) (now (a .green)) (now (a .work))
-unfolding places
+unfolding half
 mixed p =
     let g = gathered (p .before) in
     let s = begun g in
@@ -91,7 +91,7 @@ mixed p =
     (p .project .ensures ∙ (λ j. with-projected (given (a .width) (a .height) (a .a) (a .b) (s .pre .1) (s .pre .2) (a .a * a .width + a .b) (2 * a .width) 2 (pos 0)) (pos 0) (most j) (g .gather .last .1 .1 .1 .1 .1 .0) (now (a .mosaic))))
 
 scatter-requires : tie.Need-scatter-requires
-unfolding places
+unfolding half
 scatter-requires c κs =
     let p = c .before .before .before in
     let s = begun (gathered (p .before)) in
@@ -108,7 +108,7 @@ same-length-2 : tie.Need-same-length-2
 same-length-2 c = search needs
 
 returns : tie.Need-returns
-unfolding places
+unfolding half
 returns c =
     let o = c .before .before in
     let p = o .before .before .before .before in

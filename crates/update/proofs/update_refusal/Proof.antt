@@ -7,9 +7,9 @@ use native.Mathlib.Omega.{arith}
 use denote.Ref.{now}
 use borrow.Author.Needs.{needs}
 use Rattle.integers.proofs.Tests.{tested}
+use Rattle.planes.specs.Planes.{frame}
 use Rattle.questions.specs.Questions.{ask, shape-questions}
 use Rattle.questions.proofs.Asking.{asking, ask-first, ask-later, AllYes, all-yes, shape-is}
-use Rattle.turns.specs.Frames.{frame}
 use Rattle.update.specs.Calls.{updating-questions, update-questions}
 use Rattle.update.proofs.update_refusal.Statement.{statement}
 use Rattle.update.proofs.update_refusal.Tie as tie

@@ -1,0 +1,3 @@
+pub mod Layouts
+pub mod Planes
+pub mod Places

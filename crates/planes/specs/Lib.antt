@@ -1,0 +1,4 @@
+pub mod Layout
+pub mod Planes
+pub mod Lists
+pub mod Places
