@@ -12,7 +12,7 @@ use Rattle.turns.specs.Turning.{number-of-frame, accepted-as}
 use Rattle.turns.specs.declared.TurnedFrame.{TurnedFrame}
 use Rattle.turns.specs.declared.TurnedFrame.the-variants.{Refused}
 use Rattle.finishing.specs.Turnings.{TurnRun, frame-after, TurnHistory, standing, if-turned, accepted-turns}
-use Rattle.demand_3.specs.Between.{Between, between, call-between, turned-once, turned-all, turns-taken}
+use Rattle.demand_3.specs.Between.{Between, in-between, call-between, turned-once, turned-all, turns-taken}
 
 -- ---- a turning call
 -- its answer, by the number of the first question answered no
@@ -48,7 +48,7 @@ module _ (t : ℕ) (b : Between) where
       g : Frame
       g = turn-frame t (b .frame)
 
-      go : (n : ℕ) → frame-after (b .frame) (answer-for n g) (elim n [ zero ↦ g .samples | suc k ↦ b .other ]) ≡ (elim n as (λ k. Between) [ zero ↦ between g (b .frame .samples) (not (b .swapped)) | suc k ↦ b ]) .frame
+      go : (n : ℕ) → frame-after (b .frame) (answer-for n g) (elim n [ zero ↦ g .samples | suc k ↦ b .other ]) ≡ (elim n as (λ k. Between) [ zero ↦ in-between g (b .frame .samples) (not (b .swapped)) | suc k ↦ b ]) .frame
       go zero = refl
       go (suc n) = refl
 

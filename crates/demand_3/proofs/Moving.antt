@@ -18,7 +18,7 @@ use Rattle.turns.specs.declared.TurnedFrame.the-variants.{Accepted, Refused}
 use Rattle.finishing.specs.Calls.{finish-call}
 use Rattle.finishing.specs.Turnings.{Alike}
 use Rattle.finishing.proofs.Demand3.{leaves-turned, demand-3-numbered}
-use Rattle.demand_3.specs.Between.{Between, between, first-holds, second-holds, turned-once, turned-all}
+use Rattle.demand_3.specs.Between.{Between, in-between, first-holds, second-holds, turned-once, turned-all}
 use Rattle.demand_3.specs.Alike.{stands, Moved, FinishedAlike}
 use Rattle.demand_3.specs.declared.Standing.{Standing}
 use Rattle.demand_3.proofs.Histories.{runs-of, history-of, standing-of, taken-of}
@@ -35,8 +35,8 @@ module _ (t : ℕ) (at : Standing) (from to : List ℕ) where
   unfolding turned-once
   moved-yes {r} {w} {h} {l} {after} first e =
       let u : Result (turn-call t given to) (Accepted w h l) after = subst (λ (a : TurnedFrame). Result (turn-call t given to) a after) e first in
-      (λ i. between (frame w h l (cond (other (at .swapped) i) after from)) (cond (other (at .swapped) i) from after) (not (at .swapped)))
-      ∙ (λ i. between (leaves-turned t given u (sym (u .answer .number)) i) from (not (at .swapped)))
+      (λ i. in-between (frame w h l (cond (other (at .swapped) i) after from)) (cond (other (at .swapped) i) from after) (not (at .swapped)))
+      ∙ (λ i. in-between (leaves-turned t given u (sym (u .answer .number)) i) from (not (at .swapped)))
       ∙ left-yes (turn-questions t given (length to)) _ _ 0 (u .answer .number) refl
     where
       other : (s : Bool) → xor (not s) s ≡ true
@@ -46,8 +46,8 @@ module _ (t : ℕ) (at : Standing) (from to : List ℕ) where
   pub moved-no : {r : TurnedFrame} {n : ℕ} {after : List ℕ} → Result (turn-call t given to) r after → r ≡ Refused n → Moved t at from to at after
   unfolding turned-once
   moved-no {r} {n} {after} first e =
-      (λ i. between (frame (at .width) (at .height) (at .layout) (cond (same (at .swapped) i) after from)) (cond (same (at .swapped) i) from after) (at .swapped))
-      ∙ (λ i. between given (kept i) (at .swapped))
+      (λ i. in-between (frame (at .width) (at .height) (at .layout) (cond (same (at .swapped) i) after from)) (cond (same (at .swapped) i) from after) (at .swapped))
+      ∙ (λ i. in-between given (kept i) (at .swapped))
       ∙ left-no (turn-questions t given (length to)) _ _ n (u .answer .number) refused
     where
       same : (s : Bool) → xor s s ≡ false
@@ -79,19 +79,19 @@ chosen-not false x y = unfold xor in refl
 module _ (t : ℕ) (at r : Standing) (first second after : List ℕ) where
   -- the turned frame, where the call was given the frame as it stands
   given-standing : {s : Bool} → at .swapped ≡ s → {b : Between}
-      → b ≡ turned-once t (between (frame (at .width) (at .height) (at .layout) (cond s second first)) (cond s first second) (at .swapped)) → b ≡ turned-once t (stands at first second)
-  given-standing e m = m ∙ (λ i. turned-once t (between (frame (at .width) (at .height) (at .layout) (cond (sym e i) second first)) (cond (sym e i) first second) (at .swapped)))
+      → b ≡ turned-once t (in-between (frame (at .width) (at .height) (at .layout) (cond s second first)) (cond s first second) (at .swapped)) → b ≡ turned-once t (stands at first second)
+  given-standing e m = m ∙ (λ i. turned-once t (in-between (frame (at .width) (at .height) (at .layout) (cond (sym e i) second first)) (cond (sym e i) first second) (at .swapped)))
 
   pub once-second : at .swapped ≡ true → Moved t at second first r after → stands r after second ≡ turned-once t (stands at first second)
   once-second e m =
-      (λ i. between (frame (r .width) (r .height) (r .layout) (place after second i)) (place second after i) (r .swapped)) ∙ given-standing e m
+      (λ i. in-between (frame (r .width) (r .height) (r .layout) (place after second i)) (place second after i) (r .swapped)) ∙ given-standing e m
     where
       place : (x y : List ℕ) → cond (r .swapped) y x ≡ cond (xor (r .swapped) (at .swapped)) x y
       place x y = sym (chosen (r .swapped) x y) ∙ ap (λ (s : Bool). cond (xor (r .swapped) s) x y) (sym e)
 
   pub once-first : at .swapped ≡ false → Moved t at first second r after → stands r first after ≡ turned-once t (stands at first second)
   once-first e m =
-      (λ i. between (frame (r .width) (r .height) (r .layout) (place after first i)) (place first after i) (r .swapped)) ∙ given-standing e m
+      (λ i. in-between (frame (r .width) (r .height) (r .layout) (place after first i)) (place first after i) (r .swapped)) ∙ given-standing e m
     where
       place : (x y : List ℕ) → cond (r .swapped) x y ≡ cond (xor (r .swapped) (at .swapped)) x y
       place x y = sym (chosen-not (r .swapped) x y) ∙ ap (λ (s : Bool). cond (xor (r .swapped) s) x y) (sym e)
@@ -129,7 +129,7 @@ second-is at first second = go (at .swapped)
     go false = refl
 
 pub run-alike : (turns : List ℕ) (f : Frame) (other : List ℕ) (s : Settings) (before₁ before₂ : Lent) {r₁ r₂ : Answer} {n₁ n₂ : ℕ} {at : Standing} {first second : List ℕ} {after₁ after₂ : Lent}
-    → Result (finish-call f s before₁) r₁ after₁ → stands at first second ≡ turned-all turns (between f other false) → Result (finish-call (stands at first second .frame) s before₂) r₂ after₂
+    → Result (finish-call f s before₁) r₁ after₁ → stands at first second ≡ turned-all turns (in-between f other false) → Result (finish-call (stands at first second .frame) s before₂) r₂ after₂
     → n₁ ≡ number-of-answer r₁ → n₂ ≡ number-of-answer r₂
     → FinishedAlike turns f other s before₁ before₂ (record { given = n₁; turned = n₂ }) first second after₁ after₂
 run-alike turns f other s before₁ before₂ {r₁} {r₂} {n₁} {n₂} {at} {first} {second} {after₁} {after₂} p e q e₁ e₂ = record {
@@ -144,7 +144,7 @@ run-alike turns f other s before₁ before₂ {r₁} {r₂} {n₁} {n₂} {at} {
 }
   where
     start : Between
-    start = between f other false
+    start = in-between f other false
 
     given : Numbered (finish-call f s before₁) n₁ after₁
     given = to-number (finish-call f s before₁) p e₁

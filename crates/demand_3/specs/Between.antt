@@ -14,8 +14,8 @@ pub record Between : Type 0 where
   pub other : List ℕ
   pub swapped : Bool
 
-abbrev pub between : Frame → List ℕ → Bool → Between
-between f other swapped = record { frame = f; other = other; swapped = swapped }
+abbrev pub in-between : Frame → List ℕ → Bool → Between
+in-between f other swapped = record { frame = f; other = other; swapped = swapped }
 
 -- what each mosaic holds
 abbrev pub first-holds : Between → List ℕ
@@ -30,7 +30,7 @@ call-between t b = turn-call t (b .frame) (b .other)
 
 -- and what it leaves
 unfoldable pub turned-once : ℕ → Between → Between
-turned-once t b = if-accepted (call-between t b .questions) (between (turn-frame t (b .frame)) (b .frame .samples) (not (b .swapped))) b
+turned-once t b = if-accepted (call-between t b .questions) (in-between (turn-frame t (b .frame)) (b .frame .samples) (not (b .swapped))) b
 
 -- a list of them
 unfoldable pub turned-all : List ℕ → Between → Between

@@ -182,7 +182,7 @@ pub extern "C" fn demosaic_turn(
 }
 
 // The places of a turned width or height; 0 where it was refused.
-fn places(extent: Extent) -> usize
+fn places_of(extent: Extent) -> usize
     ensures { λ r. ⌜ r ≡ places-of extent ⌝ }
 {
     match extent {
@@ -206,8 +206,8 @@ pub extern "C" fn demosaic_turned_shape(
 {
     let t = Turn { number: byte(turn) };
     let given = byte(layout);
-    let w = places(t.turned_width(width, height, given));
-    let h = places(t.turned_height(width, height, given));
+    let w = places_of(t.turned_width(width, height, given));
+    let h = places_of(t.turned_height(width, height, given));
     let answer = t.turned_layout(width, height, given);
     match answer {
         TurnedLayout::Refused(number) => number,

@@ -49,12 +49,12 @@ module _ (top : ℕ) where
     green-bound blue = adams-bound
 
 -- one in each of the three planes
-pub record Within (top : ℕ) (q : Planes ℕ) : Type 0 where
+pub record SamplesTo (top : ℕ) (q : Planes ℕ) : Type 0 where
   pub red : q .red ≤ top
   pub green : q .green ≤ top
   pub blue : q .blue ≤ top
 
-pub estimate-bound : (top w h l : ℕ) (p : ℕ → ℕ → ℕ) → ((r c : ℕ) → r < h → c < w → p r c ≤ top) → (r c : ℕ) → r < h → c < w → Within top (estimate top w h l p r c)
+pub estimate-bound : (top w h l : ℕ) (p : ℕ → ℕ → ℕ) → ((r c : ℕ) → r < h → c < w → p r c ≤ top) → (r c : ℕ) → r < h → c < w → SamplesTo top (estimate top w h l p r c)
 unfolding estimate nearby estimate-at
 estimate-bound top w h l p small r c hr hc = record {
   red = bilinear-bound top near there (on-red-row l r) (on-red-column l c);
@@ -78,5 +78,5 @@ lists-bound top f count small = (
   listing-bound top (f .width) (f .height) _ (λ r c hr hc. bound r c hr hc .blue),
 )
   where
-    bound : (r c : ℕ) → r < f .height → c < f .width → Within top (estimate top (f .width) (f .height) (f .layout) (plane-of 0 (f .width) (f .samples)) r c)
+    bound : (r c : ℕ) → r < f .height → c < f .width → SamplesTo top (estimate top (f .width) (f .height) (f .layout) (plane-of 0 (f .width) (f .samples)) r c)
     bound = estimate-bound top (f .width) (f .height) (f .layout) (plane-of 0 (f .width) (f .samples)) (plane-bound top (f .width) (f .height) (f .samples) count small)

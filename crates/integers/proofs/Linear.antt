@@ -21,13 +21,13 @@ pub data Linear : Type 0 where
   neg : Linear → Linear
   _⊛_ : ℤ → Linear → Linear
 
-abbrev pub value : Linear → List ℤ → ℤ
-value (atom i) ρ = getD ρ i (pos 0)
-value (number c) ρ = c
-value (a ⊕ b) ρ = value a ρ +ℤ value b ρ
-value (a ⊖ b) ρ = value a ρ -ℤ value b ρ
-value (neg a) ρ = negℤ (value a ρ)
-value (c ⊛ a) ρ = c *ℤ value a ρ
+abbrev pub value-of : Linear → List ℤ → ℤ
+value-of (atom i) ρ = getD ρ i (pos 0)
+value-of (number c) ρ = c
+value-of (a ⊕ b) ρ = value-of a ρ +ℤ value-of b ρ
+value-of (a ⊖ b) ρ = value-of a ρ -ℤ value-of b ρ
+value-of (neg a) ρ = negℤ (value-of a ρ)
+value-of (c ⊛ a) ρ = c *ℤ value-of a ρ
 
 -- ---- the normal form: the constant, and then each atom's coefficient
 abbrev _⊞_ : List ℤ → List ℤ → List ℤ
@@ -80,7 +80,7 @@ dot-unit zero (x ∷ ρ) = +ℤ-idr (pos 1 *ℤ x) ∙ one-*ℤ x
 dot-unit (suc i) [] = refl
 dot-unit (suc i) (x ∷ ρ) = ap (λ p. p +ℤ dot (unit i) ρ) (zero-*ℤ x) ∙ +ℤ-idl (dot (unit i) ρ) ∙ dot-unit i ρ
 
-sound : (e : Linear) (ρ : List ℤ) → value e ρ ≡ dot (normal e) (pos 1 ∷ ρ)
+sound : (e : Linear) (ρ : List ℤ) → value-of e ρ ≡ dot (normal e) (pos 1 ∷ ρ)
 unfolding dot
 sound (atom i) ρ = sym (dot-unit i ρ) ∙ sym (+ℤ-idl (dot (unit i) ρ))
 sound (number c) ρ = sym (+ℤ-idr (c *ℤ pos 1) ∙ *ℤ-comm c (pos 1) ∙ one-*ℤ c)
@@ -116,8 +116,8 @@ dot-zero (x ∷ xs) (z ∷ ρ) t =
 pub eq-of-sub : (a b : ℤ) → a -ℤ b ≡ pos 0 → a ≡ b
 eq-of-sub a b e = sym (-ℤ-+ℤ-cancel a b) ∙ ap (λ p. p +ℤ b) e ∙ +ℤ-idl b
 
-pub linear : (ρ : List ℤ) (l r : Linear) → T (all-zero (normal (l ⊖ r))) → value l ρ ≡ value r ρ
-linear ρ l r t = eq-of-sub (value l ρ) (value r ρ) (sound (l ⊖ r) ρ ∙ dot-zero (normal (l ⊖ r)) (pos 1 ∷ ρ) t)
+pub linear : (ρ : List ℤ) (l r : Linear) → T (all-zero (normal (l ⊖ r))) → value-of l ρ ≡ value-of r ρ
+linear ρ l r t = eq-of-sub (value-of l ρ) (value-of r ρ) (sound (l ⊖ r) ρ ∙ dot-zero (normal (l ⊖ r)) (pos 1 ∷ ρ) t)
 
 -- ---- the first atoms by short names
 abbrev pub x₀ : Linear

@@ -80,13 +80,13 @@ bytes-of-number (suc n) l i b h =
     high = omega (arith, b .at i)
 
 -- ---- the loop that stores a number's bytes: the n - k that are left, of what is left of the number
-pub put-none : (out : List ℕ) (at n x : ℕ) → sets out (at + 0) (bytes-of (n - 0) x) ≡ sets out at (bytes-of n x)
-put-none out at n x = λ j. sets out (add-zero at j) (bytes-of (sub-zero n j) x)
+pub bytes-none : (out : List ℕ) (at n x : ℕ) → sets out (at + 0) (bytes-of (n - 0) x) ≡ sets out at (bytes-of n x)
+bytes-none out at n x = λ j. sets out (add-zero at j) (bytes-of (sub-zero n j) x)
 
-pub put-step : (out : List ℕ) (at n k rest : ℕ) → k < n
+pub bytes-step : (out : List ℕ) (at n k rest : ℕ) → k < n
     → sets (set out (at + k) (rest % 256)) (at + (k + 1)) (bytes-of (n - (k + 1)) (rest / 256)) ≡ sets out (at + k) (bytes-of (n - k) rest)
 unfolding bytes-of
-put-step out at n k rest h =
+bytes-step out at n k rest h =
     ap (λ (i : ℕ). sets (set out (at + k) (rest % 256)) i (bytes-of (n - (k + 1)) (rest / 256))) (omega arith)
     ∙ ap (λ (m : ℕ). sets out (at + k) (bytes-of m rest)) more
   where

@@ -16,21 +16,21 @@ use Rattle.integers.specs.Numbers.{whole-divided, rounded, clamp}
 use Rattle.integers.proofs.Tests.{never}
 use Rattle.integers.proofs.Bounds.{Bound, abs-add}
 use Rattle.integers.proofs.Clamping.{clamp-low, clamp-high, clamp-mid}
-use Rattle.neighbourhood.specs.Inner.{Small}
+use Rattle.neighbourhood.specs.Inner.{SmallResult}
 
 -- ---- a signed result and its size
 -- from the size of what it is
-pub small-by : {m : ℕ} {r v : ℤ} → r ≡ v → natAbs v ≤ m → Small m r v
+pub small-by : {m : ℕ} {r v : ℤ} → r ≡ v → natAbs v ≤ m → SmallResult m r v
 small-by {m} e h = record { is = e; small = subst (λ (z : ℤ). natAbs z ≤ m) (sym e) h }
 
-pub size : {m : ℕ} {r v : ℤ} → Small m r v → natAbs v ≤ m
+pub size : {m : ℕ} {r v : ℤ} → SmallResult m r v → natAbs v ≤ m
 size {m} s = subst (λ (z : ℤ). natAbs z ≤ m) (s .is) (s .small)
 
 -- a bound that `search bounds` finds
 pub within : (z : ℤ) {m : ℕ} (b : Bound z) → T (leb (b .most) m) → natAbs z ≤ m
 within z {m} b t = let l : b .most ≤ m = leb→le (b .most) m t in omega (arith, b .holds)
 
-pub sum-small : {m : ℕ} {r s x y : ℤ} → Small m r x → Small m s y → natAbs (x +ℤ y) ≤ m + m
+pub sum-small : {m : ℕ} {r s x y : ℤ} → SmallResult m r x → SmallResult m s y → natAbs (x +ℤ y) ≤ m + m
 sum-small {x = x} {y = y} p q = omega (arith, abs-add x y, size p, size q)
 
 -- ---- |x|, by the sign of x as the machine reads it

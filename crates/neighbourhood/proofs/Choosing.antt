@@ -11,7 +11,7 @@ use Rattle.integers.proofs.Tests.{cond-cases}
 use Rattle.integers.proofs.Bounds.{bounds}
 use Rattle.integers.proofs.Linear.{linear, atom, x₀, x₁, x₂, x₃, _⊕_, _⊖_, _⊛_}
 use Rattle.neighbourhood.specs.Place.{greens, two-away, gradient, along-line, along-both, eight-greens}
-use Rattle.neighbourhood.specs.Inner.{half-along, Small, most-detail, most-along, most-greens}
+use Rattle.neighbourhood.specs.Inner.{half-along, SmallResult, most-detail, most-along, most-greens}
 use Rattle.neighbourhood.proofs.Arithmetic.{small-by, sum-small, within}
 
 -- ---- how large it is
@@ -61,7 +61,7 @@ module _ (row column : ℤ → ℤ) (e : row (pos 0) ≡ column (pos 0)) where
       go false false f = once-each
 
   pub eight-is : {h v x y p q r : ℤ} → h ≡ pos (gradient row) → v ≡ pos (gradient column) → x ≡ half-along row → y ≡ half-along column
-      → Small most-along p (cond (ltZ h v) x y) → Small most-along q (cond (ltZ v h) y x) → r ≡ p +ℤ q → Small most-greens r (eight-greens row column)
+      → SmallResult most-along p (cond (ltZ h v) x y) → SmallResult most-along q (cond (ltZ v h) y x) → r ≡ p +ℤ q → SmallResult most-greens r (eight-greens row column)
   eight-is a b c d p q f =
       let sum = f ∙ (λ i. p .is i +ℤ q .is i) in
       record {

@@ -40,6 +40,6 @@ abbrev pub most-greens : ℕ
 most-greens = 1048560
 
 -- a signed result r that is v, and no farther from 0 than `most`
-pub record Small (most : ℕ) (r v : ℤ) : Type 0 where
+pub record SmallResult (most : ℕ) (r v : ℤ) : Type 0 where
   pub is : r ≡ v
   pub small : natAbs r ≤ most

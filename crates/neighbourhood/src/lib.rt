@@ -11,7 +11,7 @@ ghost use Rattle.integers.specs.Lists.{tabulate};
 ghost use Rattle.border.specs.Border.{reflect};
 ghost use Rattle.planes.specs.Layout.{by-parity};
 ghost use Rattle.planes.specs.Planes.{plane-of};
-ghost use Rattle.neighbourhood.specs.Inner.{Mosaic, inner, line-of, half-along, Small, most-detail, most-along, most-greens};
+ghost use Rattle.neighbourhood.specs.Inner.{Mosaic, inner, line-of, half-along, SmallResult, most-detail, most-along, most-greens};
 ghost use Rattle.neighbourhood.specs.Place.{neighbourhood as neighbourhood-of, around, greens as greens-of, two-away as two-away-of, gradient as gradient-of, eight-greens as eight-of, hamilton-adams, green-at as green-by, of-two as two-rounded, of-four as four-rounded, bilinear};
 
 // Five samples of a row, from `from` on.
@@ -122,28 +122,28 @@ fn wide(sample: u16) -> u32
 
 // The same for differences.
 fn signed(sample: u16) -> i32
-    ensures { λ r. ⌜ Small 65535 r (pos sample) ⌝ }
+    ensures { λ r. ⌜ SmallResult 65535 r (pos sample) ⌝ }
 {
     sample as i32
 }
 
 // The two green neighbours in a row, or in a column.
 fn greens(line: [u16; 5]) -> i32
-    ensures { λ r. ⌜ Small 131070 r (greens-of (line-of line)) ⌝ }
+    ensures { λ r. ⌜ SmallResult 131070 r (greens-of (line-of line)) ⌝ }
 {
     signed(line[1]) + signed(line[3])
 }
 
 // The two values two away.
 fn two_away(line: [u16; 5]) -> i32
-    ensures { λ r. ⌜ Small 131070 r (two-away-of (line-of line)) ⌝ }
+    ensures { λ r. ⌜ SmallResult 131070 r (two-away-of (line-of line)) ⌝ }
 {
     signed(line[0]) + signed(line[4])
 }
 
 // 2C − the two values two away, C being the place's own value.
 fn detail(line: [u16; 5]) -> i32
-    ensures { λ r. ⌜ Small most-detail r (pos 2 *ℤ line-of line (pos 0) -ℤ two-away-of (line-of line)) ⌝ }
+    ensures { λ r. ⌜ SmallResult most-detail r (pos 2 *ℤ line-of line (pos 0) -ℤ two-away-of (line-of line)) ⌝ }
 {
     2 * signed(line[2]) - two_away(line)
 }
@@ -151,7 +151,7 @@ fn detail(line: [u16; 5]) -> i32
 // |x|
 fn size(x: i32) -> i32
     requires { ⌜ natAbs x ≤ most-detail ⌝ }
-    ensures { λ r. ⌜ Small most-detail r (pos (natAbs x)) ⌝ }
+    ensures { λ r. ⌜ SmallResult most-detail r (pos (natAbs x)) ⌝ }
 {
     if x < 0 {
         return 0 - x;
@@ -161,14 +161,14 @@ fn size(x: i32) -> i32
 
 // H of a row, or V of a column, of five samples about a place.
 fn gradient(line: [u16; 5]) -> i32
-    ensures { λ r. ⌜ Small most-along r (pos (gradient-of (line-of line))) ⌝ }
+    ensures { λ r. ⌜ SmallResult most-along r (pos (gradient-of (line-of line))) ⌝ }
 {
     size(signed(line[1]) - signed(line[3])) + size(detail(line))
 }
 
 // Four times the green by a row, or by a column.
 fn along_line(line: [u16; 5]) -> i32
-    ensures { λ r. ⌜ Small most-along r (half-along (line-of line)) ⌝ }
+    ensures { λ r. ⌜ SmallResult most-along r (half-along (line-of line)) ⌝ }
 {
     2 * greens(line) + detail(line)
 }
@@ -177,7 +177,7 @@ fn along_line(line: [u16; 5]) -> i32
 // cannot be foretold.
 fn chosen(h: i32, v: i32, first: i32, second: i32) -> i32
     requires { ⌜ (natAbs first ≤ most-along) × (natAbs second ≤ most-along) ⌝ }
-    ensures { λ r. ⌜ Small most-along r (cond (ltZ h v) first second) ⌝ }
+    ensures { λ r. ⌜ SmallResult most-along r (cond (ltZ h v) first second) ⌝ }
 {
     if h < v {
         return first;
@@ -188,7 +188,7 @@ fn chosen(h: i32, v: i32, first: i32, second: i32) -> i32
 // Eight times the green, by the smaller of H and V twice, or once by each if they are equal.
 fn eight_greens(row: [u16; 5], column: [u16; 5]) -> i32
     requires { ⌜ line-of row (pos 0) ≡ line-of column (pos 0) ⌝ }
-    ensures { λ r. ⌜ Small most-greens r (eight-of (line-of row) (line-of column)) ⌝ }
+    ensures { λ r. ⌜ SmallResult most-greens r (eight-of (line-of row) (line-of column)) ⌝ }
 {
     let h = gradient(row);
     let v = gradient(column);

@@ -12,13 +12,13 @@ pub column-lt : (l : ℕ) → red-column l < 2
 unfolding red-column
 column-lt l = omega arith
 
-pub row-of : (l r c : ℕ) → r < 2 → c < 2 → red-row (with-parities l r c) ≡ r
+pub row-with : (l r c : ℕ) → r < 2 → c < 2 → red-row (with-parities l r c) ≡ r
 unfolding with-parities red-row
-row-of l r c hr hc = omega arith
+row-with l r c hr hc = omega arith
 
-pub column-of : (l r c : ℕ) → r < 2 → c < 2 → red-column (with-parities l r c) ≡ c
+pub column-with : (l r c : ℕ) → r < 2 → c < 2 → red-column (with-parities l r c) ≡ c
 unfolding with-parities red-column
-column-of l r c hr hc = omega arith
+column-with l r c hr hc = omega arith
 
 pub parities-again : (l a b r c : ℕ) → a < 2 → b < 2 → with-parities (with-parities l a b) r c ≡ with-parities l r c
 unfolding with-parities

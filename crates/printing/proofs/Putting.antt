@@ -23,8 +23,8 @@ put-then {at} {k} {r} {p} {q} {before} f g = record {
   place = omega (arith, length-append p q);
 }
 
-pub put-none : (at : ℕ) (before : List ℕ) → Put at [] before at before
-put-none at before = record { buffer = refl; place = sym (add-zero at) }
+pub put-nothing : (at : ℕ) (before : List ℕ) → Put at [] before at before
+put-nothing at before = record { buffer = refl; place = sym (add-zero at) }
 
 -- at the front
 pub put-front : (p : List ℕ) {r : ℕ} {before x : List ℕ} → length p ≤ length before → Put 0 p before r x → Written p before r x

@@ -10,7 +10,7 @@ use lib.ListN.{length, getD, drop, set, length-append, drop-of-length-le}
 use lib.Seq.{sets, drop-cons}
 use Rattle.planes.specs.Planes.{Planes}
 use Rattle.printing.specs.Text.{digits, digit-count, decimal, separator, rows-after, frame-text, refusal, Put}
-use Rattle.printing.proofs.Putting.{sets-last, put-then, put-none}
+use Rattle.printing.proofs.Putting.{sets-last, put-then, put-nothing}
 
 -- ---- lengths
 length-digits : (k n : ℕ) → length (digits k n) ≡ k
@@ -86,4 +86,4 @@ rows-step w s k {at} {end = end} {out = out} {after = after} h n e b rest =
 pub rows-end : (w : ℕ) (s : List ℕ) (k at : ℕ) (out : List ℕ) → length s ≤ k → Put at (rows-after w k (drop k s)) out at out
 unfolding rows-after
 rows-end w s k at out h =
-    subst (λ (text : List ℕ). Put at text out at out) (ap (rows-after w k) (sym (drop-of-length-le s {i = k} h))) (put-none at out)
+    subst (λ (text : List ℕ). Put at text out at out) (ap (rows-after w k) (sym (drop-of-length-le s {i = k} h))) (put-nothing at out)

@@ -33,8 +33,8 @@ module _ (f : Frame) (s : Settings) (before : Lent) (n : ℕ) (e : n ≡ ask (ro
       all-yes-split (frame-questions (f .width) (f .height) (f .layout) s) (buffer-questions (ceiling-of s) count (f .samples) (rooms-of before) ++ planes-questions (ceiling-of s) (before .three))
       (all-yes (rounds-questions f s before) tt n e z)
 
-  pub workable : Workable (f .width) (f .height) (f .samples) (before .three .green) (length (before .work))
-  workable =
+  pub rounds-workable : Workable (f .width) (f .height) (f .samples) (before .three .green) (length (before .work))
+  rounds-workable =
       let y = known .1 in
       let u = shape-is (f .width) (f .height) (f .layout) (all-yes-split (shape-questions (f .width) (f .height) (f .layout)) (settings-questions s) (known .0) .0) in
       record {

@@ -59,14 +59,14 @@ module _ (top : ℕ) (limit : ℤ) (k : Coloured) where
   round-in w h l mosaic green = record { top = top; limit = limit; width = w; height = h; row = k .row l; column = k .column l; mosaic = mosaic; green = green }
 
   -- one
-  abbrev pub one-round : Operation (ℕ × ℕ × ℤ) ℤ
-  one-round w h l p = round (round-in w h l (λ i j. p i j .0) (λ i j. p i j .1)) (λ i j. p i j .2)
+  abbrev pub round-operation : Operation (ℕ × ℕ × ℤ) ℤ
+  round-operation w h l p = round (round-in w h l (λ i j. p i j .0) (λ i j. p i j .1)) (λ i j. p i j .2)
 
   -- the projection on green, beside the mosaic
   projected-of : Operation (ℕ × ℕ × ℤ) (ℕ × ℤ)
   projected-of w h l p r c = (p r c .0, projected limit (pos 0) (pos top) w h (λ i j. pos (p i j .1)) (λ i j. p i j .2) r c)
 
-  pub round-commutes : Commutes same same one-round
+  pub round-commutes : Commutes same same round-operation
   unfolding projected-of put-observed
   round-commutes =
       commutes-by {F = λ w h l p r c. cond (k .own (on-red-row l r) (on-red-column l c)) (pos (projected-of w h l p r c .0)) (projected-of w h l p r c .1)}
@@ -84,7 +84,7 @@ module _ (top : ℕ) (limit : ℤ) (k : Coloured) where
   unfolding working-plane
   working-plane-commute zero = pointwise {A = ℕ × ℕ × ℤ} same same (λ x. x .2) (λ x. refl)
   working-plane-commute (suc n) =
-      composed {F = λ w h l p r c. (p r c .0, p r c .1, n-rounds n w h l p r c)} {G = one-round}
+      composed {F = λ w h l p r c. (p r c .0, p r c .1, n-rounds n w h l p r c)} {G = round-operation}
       (composed {B = (ℕ × ℕ) × ℤ} {F = λ w h l p r c. ((p r c .0, p r c .1), n-rounds n w h l p r c)}
       (paired (pointwise {A = ℕ × ℕ × ℤ} {B = ℕ × ℕ} same same (λ x. (x .0, x .1)) (λ x. refl)) (working-plane-commute n))
       (pointwise {B = ℕ × ℕ × ℤ} same same (λ x. (x .0 .0, x .0 .1, x .1)) (λ x. refl)))

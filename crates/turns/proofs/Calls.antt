@@ -10,7 +10,7 @@ use borrow.Author.Tests.{le-leb, lt-leb, leb-true, eqb-true}
 use Rattle.integers.proofs.Tests.{equal-below}
 use Rattle.planes.specs.Layout.{red-row, red-column, with-parities}
 use Rattle.planes.specs.Planes.{listing, plane-of, Frame, frame}
-use Rattle.planes.proofs.Layouts.{row-lt, column-lt, row-of, column-of, parities-again, own-parities}
+use Rattle.planes.proofs.Layouts.{row-lt, column-lt, row-with, column-with, parities-again, own-parities}
 use Rattle.questions.specs.Questions.{ask}
 use Rattle.questions.proofs.Asking.{AllYes, all-yes, Shape, shape-is}
 use Rattle.turns.specs.Pictures.{Picture, exchanged, left-right, top-bottom, flip-if-even, steps-of, if-so, turned-by, turned, followed-by, number-of-steps, then-another}
@@ -50,7 +50,7 @@ tb-of t = eqb (t / 2 % 2) 1
 parities-by : (F G : ℕ → ℕ) (k l r c : ℕ) → r < 2 → c < 2 → k ≡ with-parities l r c → with-parities k (F (red-row k)) (G (red-column k)) ≡ with-parities l (F r) (G c)
 parities-by F G k l r c hr hc e =
     ap (λ (x : ℕ). with-parities x (F (red-row x)) (G (red-column x))) e
-    ∙ (λ i. with-parities (with-parities l r c) (F (row-of l r c hr hc i)) (G (column-of l r c hr hc i)))
+    ∙ (λ i. with-parities (with-parities l r c) (F (row-with l r c hr hc i)) (G (column-with l r c hr hc i)))
     ∙ parities-again l r c (F r) (G c) hr hc
 
 -- ---- the turned width, height and places, by the turn's steps

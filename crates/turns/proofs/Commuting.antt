@@ -14,7 +14,7 @@ use Rattle.border.specs.Border.{reflect}
 use Rattle.border.proofs.Reflection.{reflect-lt, reflect-mirror}
 use Rattle.planes.specs.Layout.{red-row, red-column, on-red-row, on-red-column, with-parities}
 use Rattle.planes.specs.Planes.{Agree}
-use Rattle.planes.proofs.Layouts.{row-lt, column-lt, row-of, column-of}
+use Rattle.planes.proofs.Layouts.{row-lt, column-lt, row-with, column-with}
 use Rattle.turns.specs.Pictures.{Picture, exchanged, left-right, top-bottom, flip-if-even, steps-of, if-so, turned-by, turned, _≈_}
 use Rattle.turns.specs.Operations.{Operation, Around, nearby}
 use Rattle.turns.proofs.Pictures.{flip-is, flip-lt, ≈-refl, ≈-sym, ≈-trans, exchanged-≈, left-right-≈, top-bottom-≈, top-bottom-is}
@@ -71,20 +71,20 @@ commutes-by {τ = τ} {υ = υ} e f = subst (Commutes τ υ) (λ i w h l p r c. 
 -- ---- red's parities at a place, and at the place that is turned there
 pub row-exchange : (l r : ℕ) → on-red-row (exchange-layout l) r ≡ on-red-column l r
 unfolding on-red-row on-red-column
-row-exchange l r = ap (eqb (r % 2)) (row-of l (red-column l) (red-row l) (column-lt l) (row-lt l))
+row-exchange l r = ap (eqb (r % 2)) (row-with l (red-column l) (red-row l) (column-lt l) (row-lt l))
 
 pub column-exchange : (l c : ℕ) → on-red-column (exchange-layout l) c ≡ on-red-row l c
 unfolding on-red-row on-red-column
-column-exchange l c = ap (eqb (c % 2)) (column-of l (red-column l) (red-row l) (column-lt l) (row-lt l))
+column-exchange l c = ap (eqb (c % 2)) (column-with l (red-column l) (red-row l) (column-lt l) (row-lt l))
 
 pub row-mirror : (w l r : ℕ) → on-red-row (mirror-layout w l) r ≡ on-red-row l r
 unfolding on-red-row
-row-mirror w l r = ap (eqb (r % 2)) (row-of l (red-row l) (flip-if-even w (red-column l)) (row-lt l) (flip-lt w (red-column l) (column-lt l)))
+row-mirror w l r = ap (eqb (r % 2)) (row-with l (red-row l) (flip-if-even w (red-column l)) (row-lt l) (flip-lt w (red-column l) (column-lt l)))
 
 pub column-mirror : (w l c : ℕ) → c < w → on-red-column (mirror-layout w l) c ≡ on-red-column l (w - 1 - c)
 unfolding on-red-column
 column-mirror w l c h =
-    ap (eqb (c % 2)) (column-of l (red-row l) (flip-if-even w (red-column l)) (row-lt l) (flip-lt w (red-column l) (column-lt l)) ∙ flip-is w (red-column l) (column-lt l))
+    ap (eqb (c % 2)) (column-with l (red-row l) (flip-if-even w (red-column l)) (row-lt l) (flip-lt w (red-column l) (column-lt l)) ∙ flip-is w (red-column l) (column-lt l))
     ∙ turned-parity (red-column l) (column-lt l)
   where
     turned-parity : (b : ℕ) → b < 2 → eqb (c % 2) ((b + w + 1) % 2) ≡ eqb ((w - 1 - c) % 2) b

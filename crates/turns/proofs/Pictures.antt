@@ -7,7 +7,7 @@ use native.Mathlib.Decide.{ℕ-discrete}
 use native.Mathlib.Omega.{arith}
 use borrow.Author.Tests.{eq-eqb, ne-eqb}
 use Rattle.planes.specs.Layout.{red-row, red-column, with-parities}
-use Rattle.planes.proofs.Layouts.{row-lt, column-lt, row-of, column-of, parities-again, own-parities}
+use Rattle.planes.proofs.Layouts.{row-lt, column-lt, row-with, column-with, parities-again, own-parities}
 use Rattle.turns.specs.Pictures.{Picture, exchanged, left-right, top-bottom, flip-if-even, Steps, steps-of, if-so, turned-by, turned, followed-by, bit, number-of-steps, then-another, _≈_}
 
 -- ---- a parity, flipped by the length's parity
@@ -36,7 +36,7 @@ flip-twice n p h = flip-is n (flip-if-even n p) (flip-lt n p h) ∙ ap (λ (q : 
     again : ((p + n + 1) % 2 + n + 1) % 2 ≡ p
     again = omega arith
 
-ruleset exchanges = (row-of, column-of, row-lt, column-lt, parities-again, own-parities)
+ruleset exchanges = (row-with, column-with, row-lt, column-lt, parities-again, own-parities)
 
 ruleset mirrors = (exchanges, flip-lt, flip-twice)
 

@@ -21,8 +21,8 @@ use Rattle.update.specs.Places.{with-mixed}
 use Rattle.update.proofs.Places.{second-colour}
 
 -- ---- what an accepted call knows
-pub workable : (top : ℕ) (f : Frame) (green : List ℕ) (room n : ℕ) → n ≡ ask (update-questions top f green room) → n ≡ 0 → Workable (f .width) (f .height) (f .samples) green room
-workable top f green room n e z =
+pub update-workable : (top : ℕ) (f : Frame) (green : List ℕ) (room n : ℕ) → n ≡ ask (update-questions top f green room) → n ≡ 0 → Workable (f .width) (f .height) (f .samples) green room
+update-workable top f green room n e z =
     let count = f .width * f .height in
     let y = all-yes-split (shape-questions (f .width) (f .height) (f .layout)) (updating-questions top count (f .samples) green room) (all-yes (update-questions top f green room) tt n e z) in
     let s = shape-is (f .width) (f .height) (f .layout) (y .0) in

@@ -14,14 +14,14 @@ byte-requires-2 c κs = search needs
 turned-width-requires : tie.Need-turned-width-requires
 turned-width-requires c κs = search needs
 
-places-requires : tie.Need-places-requires
-places-requires c κs = search needs
+places-of-requires : tie.Need-places-of-requires
+places-of-requires c κs = search needs
 
 turned-height-requires : tie.Need-turned-height-requires
 turned-height-requires c κs = search needs
 
-places-requires-2 : tie.Need-places-requires-2
-places-requires-2 c κs = search needs
+places-of-requires-2 : tie.Need-places-of-requires-2
+places-of-requires-2 c κs = search needs
 
 turned-layout-requires : tie.Need-turned-layout-requires
 turned-layout-requires c κs = search needs
@@ -41,7 +41,7 @@ returns c =
     let h = e .before in
     let w = h .before .before in
     let l = w .before .before in
-    shape-returned _ _ _ _ (l .before .byte .ensures) (l .byte2 .ensures) _ (w .before .turned-width .ensures) (h .before .turned-height .ensures) (e .turned-layout .ensures) _ _ (w .places .ensures) (h .places2 .ensures) _ (c .before .answer .given .1)
+    shape-returned _ _ _ _ (l .before .byte .ensures) (l .byte2 .ensures) _ (w .before .turned-width .ensures) (h .before .turned-height .ensures) (e .turned-layout .ensures) _ _ (w .places-of .ensures) (h .places-of2 .ensures) _ (c .before .answer .given .1)
 
 returns-2 : tie.Need-returns-2
 returns-2 c =
@@ -49,7 +49,7 @@ returns-2 c =
     let h = e .before in
     let w = h .before .before in
     let l = w .before .before in
-    shape-returned _ _ _ _ (l .before .byte .ensures) (l .byte2 .ensures) _ (w .before .turned-width .ensures) (h .before .turned-height .ensures) (e .turned-layout .ensures) _ _ (w .places .ensures) (h .places2 .ensures) _ (c .before .answer2 .given .1)
+    shape-returned _ _ _ _ (l .before .byte .ensures) (l .byte2 .ensures) _ (w .before .turned-width .ensures) (h .before .turned-height .ensures) (e .turned-layout .ensures) _ _ (w .places-of .ensures) (h .places-of2 .ensures) _ (c .before .answer2 .given .1)
 
 pub demosaic-turned-shape-spec : {M : Type 1} → statement M
 demosaic-turned-shape-spec =
@@ -58,9 +58,9 @@ demosaic-turned-shape-spec =
     byte-requires
     byte-requires-2
     turned-width-requires
-    places-requires
+    places-of-requires
     turned-height-requires
-    places-requires-2
+    places-of-requires-2
     turned-layout-requires
     enum-known-answer
     enum-known-answer-2

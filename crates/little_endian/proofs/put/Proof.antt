@@ -7,7 +7,7 @@ use lib.ListN.{length, length-set}
 use lib.Seq.{sets}
 use denote.Ref.{now}
 use Rattle.little_endian.specs.Bytes.{bytes-of}
-use Rattle.little_endian.proofs.Bytes.{put-none, put-step, put-end}
+use Rattle.little_endian.proofs.Bytes.{bytes-none, bytes-step, put-end}
 use Rattle.little_endian.proofs.put.Statement.{statement}
 use Rattle.little_endian.proofs.put.Tie as tie
 
@@ -19,7 +19,7 @@ abbrev μ-loop : tie.MeasureT-loop
 μ-loop out₀ at n value rest₀ k₀ out rest k = n - k
 
 loop-holds : tie.Need-loop-holds Inv-loop μ-loop
-loop-holds c = let a = c .args in (omega arith, put-none (now (a .out)) (a .at) (a .n) (a .value), refl)
+loop-holds c = let a = c .args in (omega arith, bytes-none (now (a .out)) (a .at) (a .n) (a .value), refl)
 
 cast-out : tie.Need-cast-out Inv-loop μ-loop
 cast-out c = omega arith
@@ -41,7 +41,7 @@ loop-again c =
     let l = c .before in
     let a = l .before .args in (
       omega arith,
-      put-step (l .loop .out) (a .at) (a .n) (l .loop .k) (l .loop .rest) (omega arith) ∙ l .loop .inv .1,
+      bytes-step (l .loop .out) (a .at) (a .n) (l .loop .k) (l .loop .rest) (omega arith) ∙ l .loop .inv .1,
       simp length-set (l .loop .inv .2),
     )
 

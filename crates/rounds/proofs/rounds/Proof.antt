@@ -10,7 +10,7 @@ use Rattle.questions.specs.Calls.{Call}
 use Rattle.questions.specs.declared.Answer.{Answer}
 use Rattle.questions.proofs.Answering.{refuses, accepts}
 use Rattle.rounds.specs.Calls.{rounds-call}
-use Rattle.rounds.proofs.Calls.{workable, red-long, blue-long}
+use Rattle.rounds.proofs.Calls.{rounds-workable, red-long, blue-long}
 use Rattle.rounds.proofs.rounds.Statement.{statement}
 use Rattle.rounds.proofs.rounds.Tie as tie
 
@@ -48,7 +48,7 @@ rewrite-colours-requires c κs =
     let t = e .before in
     let s = start t .args .settings in
     let r = t .rounds-refusal in (
-      workable (Given t) s (Before t) (r .result) (r .ensures) (omega (arith, e .if1 .left)),
+      rounds-workable (Given t) s (Before t) (r .result) (r .ensures) (omega (arith, e .if1 .left)),
       (red-long (Given t) s (Before t) (r .result) (r .ensures) (omega (arith, e .if1 .left)), blue-long (Given t) s (Before t) (r .result) (r .ensures) (omega (arith, e .if1 .left))),
     )
 

@@ -13,7 +13,7 @@ use Rattle.questions.specs.Calls.{Call}
 use Rattle.questions.specs.declared.Answer.{Answer}
 use Rattle.questions.proofs.Answering.{refuses, accepts}
 use Rattle.update.specs.Calls.{update-call}
-use Rattle.update.proofs.Calls.{workable}
+use Rattle.update.proofs.Calls.{update-workable}
 use Rattle.update.proofs.update.Statement.{statement}
 use Rattle.update.proofs.update.Tie as tie
 
@@ -38,7 +38,7 @@ update-colours-requires c κs =
     let e = c .before .before in
     let s = e .before .before .before .before .before in
     let t = e .before .update-refusal in
-    workable _ (Given s) (now (s .args .green)) _ (t .result) (t .ensures) (omega (arith, e .if1 .left))
+    update-workable _ (Given s) (now (s .args .green)) _ (t .result) (t .ensures) (omega (arith, e .if1 .left))
 
 same-length-2 : tie.Need-same-length-2
 same-length-2 c = search needs
