@@ -7,10 +7,10 @@ use native.Mathlib.Numerals.{add-one}
 use lib.ListN.{length, drop, getD, drop-of-length-le}
 use lib.Seq.{drop-cons}
 use Rattle.planes.specs.Planes.{Frame, frame}
+use Rattle.questions.specs.Lent.{Lent}
 use Rattle.questions.specs.Calls.{Result, Numbered, number-of-answer}
 use Rattle.questions.specs.declared.Settings.{Settings}
 use Rattle.questions.specs.declared.Answer.{Answer}
-use Rattle.questions.specs.Lent.{Lent}
 use Rattle.questions.proofs.Answering.{left-no, left-yes, to-number, old-left}
 use Rattle.turns.specs.Turning.{turn-questions, turn-call}
 use Rattle.turns.specs.declared.TurnedFrame.{TurnedFrame}

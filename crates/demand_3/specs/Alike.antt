@@ -4,9 +4,9 @@ use mathlib.Core.Bool.{false, cond, xor}
 use mathlib.Core.List.{List}
 use Prim.Native.Nat.{ℕ}
 use Rattle.planes.specs.Planes.{Frame, frame}
+use Rattle.questions.specs.Lent.{Lent, rooms-of}
 use Rattle.questions.specs.Calls.{Numbered}
 use Rattle.questions.specs.declared.Settings.{Settings}
-use Rattle.questions.specs.Lent.{Lent, rooms-of}
 use Rattle.finishing.specs.Calls.{finish-call}
 use Rattle.finishing.specs.Turnings.{Alike}
 use Rattle.demand_3.specs.Between.{Between, in-between, first-holds, second-holds, turned-once, turned-all, turns-taken}

@@ -2,7 +2,6 @@
 use mathlib.Core.Bool.{cond}
 use mathlib.Core.List.{List}
 use Prim.Native.Nat.{ℕ}
-use lib.ListN.{length}
 use Rattle.planes.specs.Planes.{Frame}
 use Rattle.questions.specs.Questions.{Question}
 use Rattle.questions.specs.Calls.{Call}

@@ -16,7 +16,6 @@ use Rattle.integers.proofs.Tests.{never}
 use Rattle.integers.proofs.Linear.{linear, number, x₀, neg, _⊕_, _⊖_}
 use Rattle.integers.proofs.Bounds.{abs-minus, minus-pos, fits-abs, Bound}
 use Rattle.integers.proofs.Rounding.{whole-divided-next}
-use Rattle.questions.specs.Settings.{ceiling}
 use Rattle.filters.specs.Bank.{brought-back, Roundable}
 
 not-below {ℓ} : {X : Type ℓ} (m : ℕ) → ltZ (pos m) (pos 0) ≡ true → X
@@ -75,9 +74,9 @@ rounded-from s =
     ∙ ap (λ (z : ℤ). whole-divided z 1024) (linear (s ∷ []) (x₀ ⊖ number (pos 512) ⊕ number (pos 1024)) (x₀ ⊕ number (pos 512)) tt)
 
 -- 512 gives 1, −512 gives 0, −513 gives −1 before clipping, and 0 after it
-pub rounded-examples : (rounded 1024 (pos 512) ≡ pos 1) × (rounded 1024 (negℤ (pos 512)) ≡ pos 0) × (rounded 1024 (negℤ (pos 513)) ≡ negℤ (pos 1)) × (brought-back ceiling (negℤ (pos 513)) ≡ 0)
+pub rounded-examples : (top : ℕ) → (rounded 1024 (pos 512) ≡ pos 1) × (rounded 1024 (negℤ (pos 512)) ≡ pos 0) × (rounded 1024 (negℤ (pos 513)) ≡ negℤ (pos 1)) × (brought-back top (negℤ (pos 513)) ≡ 0)
 unfolding rounded whole-divided brought-back clamp
-rounded-examples = (refl, refl, refl, refl)
+rounded-examples top = (refl, refl, refl, refl)
 
 -- a sum that is known to be small enough can be rounded: `roundable (search bounds depth 14) tt`
 pub roundable : {s : ℤ} (b : Bound s) → T (leb (b .most) 2147483135) → Roundable s

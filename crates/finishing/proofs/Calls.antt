@@ -2,10 +2,10 @@
 use mathlib.Core.Path.{_≡_, refl, _∙_, ap}
 use Prim.Native.Nat.{ℕ}
 use Rattle.questions.specs.Settings.{rounds-of}
+use Rattle.questions.specs.Lent.{Lent}
 use Rattle.questions.specs.Calls.{number-of-answer, Result}
 use Rattle.questions.specs.declared.Answer.{Answer}
 use Rattle.questions.specs.declared.Answer.the-variants as answer
-use Rattle.questions.specs.Lent.{Lent}
 use Rattle.tally.specs.Tally.{next-tally}
 use Rattle.tally.specs.declared.Tally.{Tally}
 use Rattle.finishing.specs.Calls.{FinishGiven, untallied, number-of-finish, tally-of-finish, with-tally, next-of, FinishResult}

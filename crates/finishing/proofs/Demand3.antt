@@ -11,10 +11,10 @@ use borrow.Author.Tests.{eq-eqb, le-leb}
 use Rattle.planes.specs.Planes.{Frame, frame, Planes}
 use Rattle.questions.specs.Settings.{ceiling-of}
 use Rattle.questions.specs.Questions.{question, ask, between}
+use Rattle.questions.specs.Lent.{Lent, Rooms, rooms-of}
 use Rattle.questions.specs.Calls.{Call, Result, Numbered, number-of-answer}
 use Rattle.questions.specs.declared.Settings.{Settings}
 use Rattle.questions.specs.declared.Answer.{Answer}
-use Rattle.questions.specs.Lent.{Lent, Rooms, rooms-of}
 use Rattle.questions.proofs.Asking.{between-yes}
 use Rattle.questions.proofs.Answering.{to-number, new-left}
 use Rattle.tally.specs.declared.Tally.{Tally}

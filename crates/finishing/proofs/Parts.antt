@@ -12,10 +12,10 @@ use Rattle.planes.specs.Planes.{Frame, Planes, planes, lengths, listing, plane-
 use Rattle.planes.proofs.Planes.{length-listing, listing-agree, plane-of-listing}
 use Rattle.questions.specs.Settings.{ceiling-of}
 use Rattle.questions.specs.Questions.{ask, all-at-most, shape-questions, settings-questions, frame-questions}
+use Rattle.questions.specs.Lent.{Lent, lent, rooms-of, buffer-questions}
 use Rattle.questions.specs.Calls.{Result}
 use Rattle.questions.specs.declared.Settings.{Settings}
 use Rattle.questions.specs.declared.Answer.{Answer}
-use Rattle.questions.specs.Lent.{Lent, lent, rooms-of, buffer-questions}
 use Rattle.questions.proofs.Asking.{AllYes, all-yes, all-yes-split, all-yes-both, ask-zero}
 use Rattle.questions.proofs.Answering.{new-left}
 use Rattle.turns.proofs.Frames.{plane-bound, listing-bound}

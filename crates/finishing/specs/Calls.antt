@@ -6,11 +6,11 @@ use Prim.Native.Nat.{ℕ}
 use Rattle.planes.specs.Planes.{Frame}
 use Rattle.questions.specs.Settings.{rounds-of}
 use Rattle.questions.specs.Questions.{Question, ask}
+use Rattle.questions.specs.Lent.{Lent, Rooms, rooms-of, lent-questions}
 use Rattle.questions.specs.Calls.{Call, Result, plain-call}
 use Rattle.questions.specs.declared.Settings.{Settings}
 use Rattle.questions.specs.declared.Answer.{Answer}
 use Rattle.questions.specs.declared.Answer.the-variants as answer
-use Rattle.questions.specs.Lent.{Lent, Rooms, rooms-of, lent-questions}
 use Rattle.tally.specs.Tally.{next-tally}
 use Rattle.tally.specs.declared.Tally.{Tally}
 use Rattle.work_buffer.specs.Buffer.{zeroed}

@@ -5,8 +5,8 @@ use tally::Tally;
 ghost use mathlib.Core.Path.{_≡_};
 ghost use Rattle.planes.specs.Planes.{frame};
 ghost use Rattle.questions.specs.Questions.{ask};
-ghost use Rattle.questions.specs.Calls.{Result};
 ghost use Rattle.questions.specs.Lent.{lent, rooms-of};
+ghost use Rattle.questions.specs.Calls.{Result};
 ghost use Rattle.finishing.specs.Calls.{finish-questions, with-finished, finish-call, finish-given, number-of-finish, with-tally, FinishResult};
 
 // What the finishing call answers: the next tally, and a refusal's number before it.

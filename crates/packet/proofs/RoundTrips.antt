@@ -10,8 +10,8 @@ use lib.ListN.{length, take, drop, length-append, take-append-drop, drop-of-leng
 use lib.Seq.{take-at, drop-at, drop-drop}
 use borrow.Author.Tests.{le-leb, eq-eqb}
 use Rattle.integers.proofs.Tests.{true-is}
-use Rattle.questions.specs.Questions.{Question, ask, all-at-most, samples-question}
 use Rattle.questions.specs.Settings.{ceiling-of}
+use Rattle.questions.specs.Questions.{Question, ask, all-at-most, samples-question}
 use Rattle.questions.specs.Calls.{Result}
 use Rattle.questions.proofs.Asking.{AllYes, all-yes-both, ask-zero, all-at-most-at, ceiling-fits}
 use Rattle.questions.proofs.Answering.{left-yes, new-left}

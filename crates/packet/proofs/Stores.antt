@@ -9,8 +9,8 @@ use lib.Dec.{leb}
 use lib.ListN.{length, getD, take, drop, length-drop}
 use lib.Seq.{length-take-le}
 use borrow.Author.Tests.{le-leb, leb-true, eqb-true}
-use Rattle.questions.specs.Questions.{ask, all-at-most, shape-questions, settings-questions, samples-question}
 use Rattle.questions.specs.Settings.{ceiling-of}
+use Rattle.questions.specs.Questions.{ask, all-at-most, shape-questions, settings-questions, samples-question}
 use Rattle.questions.proofs.Asking.{AllYes, all-yes, all-yes-split, Shape, shape-is, ask-yes, ask-zero, ask-first, ask-later}
 use Rattle.questions.proofs.Answering.{answer-no, answer-yes, left-no, left-yes}
 use Rattle.little_endian.specs.Bytes.{number-at}

@@ -8,8 +8,8 @@ use lib.ListN.{length, drop, length-append}
 use lib.Seq.{sets, sets-eq}
 use borrow.Author.Tests.{leb-true, eqb-true}
 use Rattle.integers.proofs.Lists.{sets-append}
-use Rattle.questions.specs.Questions.{ask, all-at-most}
 use Rattle.questions.specs.Settings.{ceiling-of}
+use Rattle.questions.specs.Questions.{ask, all-at-most}
 use Rattle.questions.proofs.Asking.{all-yes, all-yes-split}
 use Rattle.little_endian.specs.Bytes.{bytes-of, sample-bytes}
 use Rattle.little_endian.proofs.Samples.{length-sample-bytes}

@@ -4,8 +4,8 @@ use mathlib.Core.Bool.{cond}
 use mathlib.Core.List.{List, [], _∷_, _++_}
 use lib.Dec.{leb, eqb}
 use lib.ListN.{length, drop}
-use Rattle.questions.specs.Questions.{Question, question, frame-questions, samples-question}
 use Rattle.questions.specs.Settings.{ceiling-of}
+use Rattle.questions.specs.Questions.{Question, question, frame-questions, samples-question}
 use Rattle.questions.specs.Calls.{Answered, if-accepted, Call}
 use Rattle.packet.specs.Packet.{distance, packet, fields-of, distance-in, sample-part, samples-of, repeats}
 use Rattle.packet.specs.declared.Fields.{Fields}

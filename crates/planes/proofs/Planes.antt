@@ -6,7 +6,7 @@ use native.Mathlib.Nat.{mod-lt, div-lt-iff-lt-mul, mul-comm, suc-mul, zero-mul, 
 use native.Mathlib.Omega.{arith}
 use lib.Arith.{digits-div, digits-mod, digits-lt}
 use lib.ListN.{length, getD}
-use Rattle.integers.specs.Lists.{tabulate, overwrite}
+use Rattle.integers.specs.Lists.{overwrite}
 use Rattle.integers.proofs.Lists.{length-tabulate, getD-tabulate, tabulate-cong, tabulate-getD, overwrite-none, overwrite-append, overwrite-all}
 use Rattle.planes.specs.Planes.{listing, plane-of, Agree}
 

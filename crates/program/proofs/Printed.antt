@@ -9,9 +9,9 @@ use lib.Seq.{length-sets}
 use borrow.Author.Tests.{eq-eqb, le-leb}
 use Rattle.questions.specs.Settings.{ceiling-of}
 use Rattle.questions.specs.Questions.{Question, ask}
+use Rattle.questions.specs.Lent.{Lent, rooms-of, buffer-questions}
 use Rattle.questions.specs.Calls.{Result}
 use Rattle.questions.specs.declared.Answer.{Answer}
-use Rattle.questions.specs.Lent.{Lent, rooms-of, buffer-questions}
 use Rattle.questions.proofs.Asking.{all-yes-both, ask-zero}
 use Rattle.questions.proofs.Answering.{left-no, left-yes, new-left}
 use Rattle.packet.specs.Packet.{fields-of, samples-of}

@@ -7,8 +7,8 @@ use lib.Dec.{leb}
 use lib.ListN.{length}
 use Rattle.planes.specs.Planes.{Frame, frame}
 use Rattle.questions.specs.Questions.{Question, question, ask}
-use Rattle.questions.specs.Calls.{Answered, if-accepted}
 use Rattle.questions.specs.Lent.{Lent}
+use Rattle.questions.specs.Calls.{Answered, if-accepted}
 use Rattle.packet.specs.Packet.{fields-of, samples-of}
 use Rattle.packet.specs.Calls.{read-questions, number-of-read}
 use Rattle.packet.specs.declared.Fields.{Fields}

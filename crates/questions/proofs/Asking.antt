@@ -12,8 +12,8 @@ use borrow.Author.Tests.{le-leb, lt-leb, eq-eqb, ne-eqb, leb-true}
 use Rattle.integers.specs.Lists.{tabulate}
 use Rattle.integers.proofs.Tests.{never, and-left, and-right, both, same-test}
 use Rattle.questions.specs.Settings.{ceiling-of}
-use Rattle.questions.specs.declared.Settings.{Settings}
 use Rattle.questions.specs.Questions.{Question, question, ask, between, all-at-most, shape-questions}
+use Rattle.questions.specs.declared.Settings.{Settings}
 
 -- ---- at a return
 pub ask-end : 0 ≡ ask []

@@ -11,8 +11,8 @@ use Rattle.planes.specs.Planes.{Frame, Planes, planes, listing, listings, plane
 use Rattle.planes.proofs.Planes.{listing-plane-of, listing-agree}
 use Rattle.questions.specs.Settings.{ceiling-of, rounds-of}
 use Rattle.questions.specs.Questions.{ask, shape-questions, settings-questions, frame-questions}
-use Rattle.questions.specs.declared.Settings.{Settings}
 use Rattle.questions.specs.Lent.{Lent, lent, rooms-of, buffer-questions}
+use Rattle.questions.specs.declared.Settings.{Settings}
 use Rattle.questions.proofs.Asking.{AllYes, all-yes, all-yes-split, shape-is}
 use Rattle.work_buffer.specs.Buffer.{with-plane, zeroed, Workable}
 use Rattle.work_buffer.proofs.Buffer.{length-with-plane, zeroed-with-plane}

@@ -4,10 +4,10 @@ use Prim.Native.Nat.{ℕ}
 use Rattle.planes.specs.Planes.{Frame, Planes, planes, listing, plane-of}
 use Rattle.questions.specs.Settings.{ceiling-of}
 use Rattle.questions.specs.Questions.{Question, question, all-at-most}
+use Rattle.questions.specs.Lent.{Lent, rooms-of, lent-questions}
 use Rattle.questions.specs.Calls.{Call, plain-call}
 use Rattle.questions.specs.declared.Answer.{Answer}
 use Rattle.questions.specs.declared.Settings.{Settings}
-use Rattle.questions.specs.Lent.{Lent, rooms-of, lent-questions}
 use Rattle.work_buffer.specs.Buffer.{zeroed}
 use Rattle.rounds.specs.Rounds.{rounds}
 

@@ -3,17 +3,15 @@ use mathlib.Core.Path.{_≡_, refl, sym, _∙_, ap, subst}
 use mathlib.Core.Bool.{Bool, true, false, cond, xor}
 use mathlib.Core.List.{List}
 use mathlib.Core.Logic.{_↔_}
-use Prim.Native.Nat.{ℕ, zero, suc, _+_, _*_, _-_, _/_, _%_, _≤_, _<_}
-use native.Mathlib.Nat.{mod-lt, div-lt-iff-lt-mul, mul-comm, suc-mul, zero-mul, mul-le-mul-right, div-add-mod'}
+use Prim.Native.Nat.{ℕ, _+_, _*_, _-_, _/_, _%_, _≤_, _<_}
 use native.Mathlib.Omega.{arith}
-use lib.Arith.{digits-div, digits-mod, digits-lt}
 use lib.Dec.{T}
 use lib.ListN.{length, getD}
-use Rattle.integers.specs.Lists.{tabulate, overwrite}
-use Rattle.integers.proofs.Lists.{length-tabulate, getD-tabulate, tabulate-cong, tabulate-getD, overwrite-none, overwrite-append, overwrite-all}
+use Rattle.integers.specs.Lists.{tabulate}
+use Rattle.integers.proofs.Lists.{length-tabulate, getD-tabulate}
 use Rattle.integers.proofs.Tests.{same-test, is-true, true-is}
 use Rattle.planes.specs.Layout.{red-row, red-column, with-parities}
-use Rattle.planes.specs.Planes.{listing, plane-of, Frame, frame, Agree}
+use Rattle.planes.specs.Planes.{listing, plane-of, Frame, frame}
 use Rattle.planes.proofs.Layouts.{row-lt, column-lt}
 use Rattle.planes.proofs.Planes.{length-listing, listing-agree, listing-plane-of, place-inside, plane-of-listing, row-inside, column-inside}
 use Rattle.questions.specs.Questions.{all-at-most}

@@ -1,8 +1,8 @@
 -- Inner: where each turned sample comes from, as the code finds it. Assumes nothing.
 use mathlib.Core.Bool.{Bool, cond}
 use mathlib.Core.List.{List}
-use Prim.Native.Nat.{ℕ, _+_, _*_, _-_, _<_}
-use lib.ListN.{length, getD}
+use Prim.Native.Nat.{ℕ, _+_, _*_, _-_}
+use lib.ListN.{getD}
 
 -- place i of a line of n that is mirrored or not
 unfoldable pub mirror-place : Bool → ℕ → ℕ → ℕ

@@ -30,6 +30,10 @@ shape-turn-questions turn width height layout = question 16 (leb turn 7) ∷ sha
 abbrev pub length-questions : ℕ → ℕ → ℕ → List Question
 length-questions count given room = question 6 (eqb given count) ∷ question 7 (eqb room count) ∷ []
 
+-- the turning call's questions, of a frame and a second buffer of `room`: 16, 1, 2, 3, 6, 7
+abbrev pub turn-questions : ℕ → Frame → ℕ → List Question
+turn-questions turn f room = shape-turn-questions turn (f .width) (f .height) (f .layout) ++ length-questions (f .width * f .height) (length (f .samples)) room
+
 -- ---- document 01's number of each answer
 abbrev pub number-of-composed : Composed → ℕ
 number-of-composed (composed.Single turn) = 0
@@ -55,10 +59,6 @@ shape-turned turn width height layout = turned turn (record { width = width; hei
 -- the answer that an accepted turning call gives
 abbrev pub accepted-as : Frame → TurnedFrame
 accepted-as f = turned-frame.Accepted (f .width) (f .height) (f .layout)
-
--- the turning call's questions, of a frame and a second buffer of `room`: 16, 1, 2, 3, 6, 7
-abbrev pub turn-questions : ℕ → Frame → ℕ → List Question
-turn-questions turn f room = shape-turn-questions turn (f .width) (f .height) (f .layout) ++ length-questions (f .width * f .height) (length (f .samples)) room
 
 -- the turning call, given frame f and a second buffer that held `before`: the buffer holds the turned samples then
 abbrev pub turn-call : ℕ → Frame → List ℕ → Call TurnedFrame (List ℕ)
