@@ -1,10 +1,10 @@
 -- The estimate call: what it asks, and what its answer and its planes are then. Assumes nothing.
 use mathlib.Core.List.{List, [], _∷_, _++_}
 use Prim.Native.Nat.{ℕ, _*_}
-use lib.Dec.{eqb}
 use lib.ListN.{length}
 use Rattle.planes.specs.Planes.{Frame, Planes, lengths, listings, plane-of}
-use Rattle.questions.specs.Questions.{Question, question, shape-questions, samples-question}
+use Rattle.questions.specs.Questions.{Question, shape-questions, samples-question}
+use Rattle.questions.specs.Lent.{room-questions}
 use Rattle.questions.specs.Calls.{Call, plain-call}
 use Rattle.questions.specs.declared.Answer.{Answer}
 use Rattle.estimate.specs.Estimates.{estimate}
@@ -13,9 +13,7 @@ use Rattle.estimate.specs.Estimates.{estimate}
 abbrev pub estimate-questions : ℕ → Frame → Planes ℕ → List Question
 estimate-questions top f rooms =
     shape-questions (f .width) (f .height) (f .layout)
-    ++ (question 6 (eqb (length (f .samples)) (f .width * f .height))
-    ∷ question 7 (eqb (rooms .red) (f .width * f .height)) ∷ question 7 (eqb (rooms .green) (f .width * f .height)) ∷ question 7 (eqb (rooms .blue) (f .width * f .height))
-    ∷ samples-question top (f .samples) ∷ [])
+    ++ (room-questions (f .width * f .height) (length (f .samples)) rooms ++ (samples-question top (f .samples) ∷ []))
 
 -- ---- what is promised
 -- the three planes of a frame, row by row

@@ -31,14 +31,15 @@ abbrev pub rooms-of : Lent → Rooms
 rooms-of given = record { three = lengths (given .three); work = length (given .work) }
 
 -- ---- the questions, in document 01's order
--- 6 of the mosaic and 7 of the three planes, where a plane has `count` samples, 8, and 9 with ceiling `top`
+-- 6 of a mosaic, and 7 of three planes, where each has `count` samples
+abbrev pub room-questions : ℕ → ℕ → Planes ℕ → List Question
+room-questions count given room =
+    question 6 (eqb given count) ∷ question 7 (eqb (room .red) count) ∷ question 7 (eqb (room .green) count) ∷ question 7 (eqb (room .blue) count) ∷ []
+
+-- those, 8, and 9 with ceiling `top`
 abbrev pub buffer-questions : ℕ → ℕ → List ℕ → Rooms → List Question
 buffer-questions top count mosaic room =
-    question 6 (eqb (length mosaic) count)
-    ∷ question 7 (eqb (room .three .red) count) ∷ question 7 (eqb (room .three .green) count) ∷ question 7 (eqb (room .three .blue) count)
-    ∷ question 8 (leb (8 * count) (room .work))
-    ∷ samples-question top mosaic
-    ∷ []
+    room-questions count (length mosaic) (room .three) ++ (question 8 (leb (8 * count) (room .work)) ∷ samples-question top mosaic ∷ [])
 
 -- 1 to 5, and then those
 abbrev pub lent-questions : Frame → Settings → Rooms → List Question
