@@ -16,19 +16,19 @@ use Rattle.integers.proofs.Tests.{is-true, true-is, never}
 use Rattle.integers.proofs.Order.{le-of-not-lt, abs-between}
 use Rattle.integers.proofs.Bounds.{abs-neg}
 use Rattle.integers.proofs.Lists.{length-tabulate, getD-tabulate, tabulate-cong, tabulate-getD, map-tabulate}
-use Rattle.planes.specs.Planes.{listing, plane-of}
+use Rattle.planes.specs.Planes.{listing, plane-of, Sizes}
 use Rattle.planes.specs.Lists.{value}
 use Rattle.planes.proofs.Planes.{row-inside, column-inside, place-inside, length-listing, plane-of-listing, listing-agree}
 use Rattle.questions.specs.Questions.{ask, all-at-most, size-questions}
 use Rattle.questions.specs.Calls.{number-of-answer, Result}
 use Rattle.questions.specs.declared.Answer.{Answer}
-use Rattle.questions.proofs.Asking.{AllYes, all-yes, all-yes-split, ask-zero, between-yes, between-is, area-bound, all-at-most-at, all-at-most-by}
+use Rattle.questions.proofs.Asking.{all-yes, all-yes-split, ask-zero, between-yes, sizes-is, all-at-most-at, all-at-most-by}
 use Rattle.questions.proofs.Answering.{new-left}
 use Rattle.filters.specs.Bank.{Bands, split}
 use Rattle.filters.proofs.Reconstruction.{reconstruct}
 use Rattle.filters.proofs.Ranges.{split-range}
 use Rattle.filters.proofs.Turned.{join-commutes}
-use Rattle.bank.specs.Planes.{Sizes, Plane, plane, bands-of}
+use Rattle.bank.specs.Planes.{Plane, plane, bands-of}
 use Rattle.bank.specs.Calls.{bands, band-lengths, to-split, to-join, splitting-questions, split-questions, joining-questions, join-questions, split-lists, join-list, split-call, join-call}
 
 -- ---- 15, of one value, by the two tests
@@ -52,12 +52,6 @@ not-beyond (negsuc m) v s t u = absurd s
 not-beyond (pos m) v s t u = le-leb (natAbs v) m (abs-between (le-of-not-lt v (negℤ (pos m)) (ap (ltZ v) (sym (+ℤ-idl (negℤ (pos m)))) ∙ t)) (le-of-not-lt (pos m) v u) (omega (arith, abs-neg (pos m))) (omega arith))
 
 -- ---- what an accepted call knows
-pub sizes-is : (w h : ℕ) → AllYes (size-questions 1 w h) → Sizes w h
-sizes-is w h y =
-    let p = between-is 1 2048 w (y .0) in
-    let q = between-is 1 2048 h (y .1 .0) in
-    record { width-from = p .0; width-to = p .1; height-from = q .0; height-to = q .1; area = area-bound (p .1) (q .1) }
-
 -- how far from 0 the values are, one by one
 pub magnitudes : (l : List ℤ) (n : ℕ) → length l ≡ n → map natAbs l ≡ tabulate n (λ k. natAbs (value l k))
 magnitudes l n e = ap (map natAbs) (sym (tabulate-getD l n (pos 0) e)) ∙ map-tabulate natAbs n (value l)
@@ -74,7 +68,7 @@ plane-is most l w h e y = record { count = e; small = small }
         (all-at-most-at most (tabulate n (λ i. natAbs (value l i))) (true-is (ap (all-at-most most) (sym (magnitudes l n e)) ∙ y)) k (omega (arith, length-tabulate n (λ i. natAbs (value l i)), b)))
 
 pub record Splittable (w h : ℕ) (given : List ℤ) (rooms : Bands ℕ) : Type 0 where
-  pub sizes : Sizes w h
+  pub sizes : Sizes 1 w h
   pub plane : Plane to-split given w h
   pub room1 : rooms .band1 ≡ w * h
   pub room2 : rooms .band2 ≡ w * h
@@ -86,7 +80,7 @@ splittable w h given rooms n e z =
     let y = all-yes-split (size-questions 1 w h) (splitting-questions (w * h) given rooms) (all-yes (split-questions w h given rooms) tt n e z) in
     let q = y .1 in
     record {
-      sizes = sizes-is w h (y .0);
+      sizes = sizes-is 1 w h (y .0);
       plane = plane-is to-split given w h (eqb-true (length given) (w * h) (q .0)) (q .1 .1 .1 .1 .1 .0);
       room1 = eqb-true (rooms .band1) (w * h) (q .1 .0);
       room2 = eqb-true (rooms .band2) (w * h) (q .1 .1 .0);
@@ -95,7 +89,7 @@ splittable w h given rooms n e z =
     }
 
 pub record Joinable (w h : ℕ) (given : Bands (List ℤ)) (room : ℕ) : Type 0 where
-  pub sizes : Sizes w h
+  pub sizes : Sizes 1 w h
   pub plane1 : Plane to-join (given .band1) w h
   pub plane2 : Plane to-join (given .band2) w h
   pub plane3 : Plane to-join (given .band3) w h
@@ -108,7 +102,7 @@ joinable w h given room n e z =
     let q = y .1 in
     let v = q .1 .1 .1 .1 .1 in
     record {
-      sizes = sizes-is w h (y .0);
+      sizes = sizes-is 1 w h (y .0);
       plane1 = plane-is to-join (given .band1) w h (eqb-true (length (given .band1)) (w * h) (q .0)) (v .0);
       plane2 = plane-is to-join (given .band2) w h (eqb-true (length (given .band2)) (w * h) (q .1 .0)) (v .1 .0);
       plane3 = plane-is to-join (given .band3) w h (eqb-true (length (given .band3)) (w * h) (q .1 .1 .0)) (v .1 .1 .0);
@@ -131,7 +125,7 @@ times-listing w h l e =
     tabulate-cong (w * h) _ _ (λ k b. ap (λ (i : ℕ). pos 1024 *ℤ value l i) (div-add-mod' k w))
     ∙ sym (map-tabulate (λ z. pos 1024 *ℤ z) (w * h) (value l)) ∙ ap (map (λ z. pos 1024 *ℤ z)) (tabulate-getD l (w * h) (pos 0) e)
 
-module _ (w h : ℕ) (given : List ℤ) (z : Sizes w h) (p : Plane to-split given w h) where
+module _ (w h : ℕ) (given : List ℤ) (z : Sizes 1 w h) (p : Plane to-split given w h) where
   -- every value of every band may be joined
   bands-small : (r c : ℕ) → r < h → c < w
       → let s = split 1 w h (plane w given) r c in (natAbs (s .band1) ≤ to-join) × (natAbs (s .band2) ≤ to-join) × (natAbs (s .band3) ≤ to-join) × (natAbs (s .band4) ≤ to-join)

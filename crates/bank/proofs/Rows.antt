@@ -11,7 +11,7 @@ use Rattle.integers.proofs.Lists.{overwrite-in, overwrite-cong}
 use Rattle.integers.proofs.Bounds.{abs-add}
 use Rattle.border.specs.Border.{reflect}
 use Rattle.border.proofs.Reflection.{reflect-lt, reflect-inside}
-use Rattle.planes.specs.Planes.{plane-of}
+use Rattle.planes.specs.Planes.{plane-of, Sizes}
 use Rattle.planes.specs.Lists.{value}
 use Rattle.planes.proofs.Planes.{row-room, place-inside}
 use Rattle.filters.specs.Bank.{Taps, weighted, tap, along, along-columns, filtered, Bands, join, low-join, high-join}
@@ -21,7 +21,7 @@ use Rattle.filters.proofs.Linearity.{along-cong, filtered-by-rows, join-by-rows
 use Rattle.lines.specs.declared.Five.{Five}
 use Rattle.lines.specs.Lines.{Run, Runs, three, five, joined}
 use Rattle.lines.proofs.Lines.{run-laid, three-range, five-range}
-use Rattle.bank.specs.Planes.{Sizes, Plane, plane, bands-of}
+use Rattle.bank.specs.Planes.{Plane, plane, bands-of}
 
 -- ---- a row of a plane is a run
 pub row-run : {m : ℕ} {l : List ℤ} {w h : ℕ} → Plane m l w h → (most : ℕ) → m ≤ most → (i at : ℕ) → i < h → at ≡ i * w → Run most l at w
@@ -30,7 +30,7 @@ row-run {m} {l} {w} {h} p most le i at hi e = record {
   small = λ k hk. le-trans (p .small (at + k) (omega (arith, place-inside hi hk, e))) le;
 }
 
-pub row-small : {w h : ℕ} → Sizes w h → (i : ℕ) → i < h → i * w + w ≤ 4194304
+pub row-small : {w h : ℕ} → Sizes 1 w h → (i : ℕ) → i < h → i * w + w ≤ 4194304
 row-small {w} {h} s i hi = omega (arith, row-room w h i hi, s .area)
 
 -- ---- rows about a row

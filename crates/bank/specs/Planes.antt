@@ -8,14 +8,6 @@ use Rattle.planes.specs.Planes.{plane-of}
 use Rattle.planes.specs.Lists.{value}
 use Rattle.filters.specs.Bank.{Bands}
 
--- a width and a height that the bank takes
-pub record Sizes (w h : ℕ) : Type 0 where
-  pub width-from : 1 ≤ w
-  pub width-to : w ≤ 2048
-  pub height-from : 1 ≤ h
-  pub height-to : h ≤ 2048
-  pub area : w * h ≤ 4194304
-
 -- a plane of w by h, none of its values farther from 0 than `most`
 pub record Plane (most : ℕ) (l : List ℤ) (w h : ℕ) : Type 0 where
   pub count : length l ≡ w * h

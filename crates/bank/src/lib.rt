@@ -9,12 +9,12 @@ ghost use lib.IntN.{natAbs};
 ghost use lib.ListN.{length};
 ghost use Rattle.integers.specs.Numbers.{rounded};
 ghost use Rattle.integers.specs.Lists.{overwrite};
-ghost use Rattle.planes.specs.Planes.{listing};
+ghost use Rattle.planes.specs.Planes.{listing, Sizes};
 ghost use Rattle.questions.specs.Settings.{ceiling};
 ghost use Rattle.questions.specs.Questions.{ask, all-at-most};
 ghost use Rattle.questions.specs.Calls.{Result};
 ghost use Rattle.filters.specs.Bank.{Distance, split as split-plane, join as join-bands, brought-back};
-ghost use Rattle.bank.specs.Planes.{Sizes, Plane, plane, bands-of};
+ghost use Rattle.bank.specs.Planes.{Plane, plane, bands-of};
 ghost use Rattle.bank.specs.Calls.{bands, to-split, to-join, values-questions, split-questions, join-questions, split-call, join-call};
 
 // 1 where a value is farther from 0 than `most`, else what was found before.
@@ -59,7 +59,7 @@ fn split_row(
     band3: &mut [i32],
     band4: &mut [i32],
 )
-    requires { ⌜ Sizes width height × Plane to-split (now given) width height × (r < height) ⌝ }
+    requires { ⌜ Sizes 1 width height × Plane to-split (now given) width height × (r < height) ⌝ }
     requires { ⌜ (width + 2 ≤ length (now low)) × (width + 2 ≤ length (now high)) ⌝ }
     requires { ⌜ (length (now band1) ≡ width * height) × (length (now band2) ≡ width * height) × (length (now band3) ≡ width * height) × (length (now band4) ≡ width * height) ⌝ }
     ensures { λ _. ⌜ now (band1 .exit) ≡ overwrite (now (band1 .entry)) (r * width) width (λ c. split-plane 1 width height (plane width (now (given .entry))) r c .band1) ⌝ }
@@ -87,7 +87,7 @@ fn split_rows(
     band3: &mut [i32],
     band4: &mut [i32],
 )
-    requires { ⌜ Sizes width height × Plane to-split (now given) width height ⌝ }
+    requires { ⌜ Sizes 1 width height × Plane to-split (now given) width height ⌝ }
     requires { ⌜ (width + 2 ≤ length (now low)) × (width + 2 ≤ length (now high)) ⌝ }
     requires { ⌜ (length (now band1) ≡ width * height) × (length (now band2) ≡ width * height) × (length (now band3) ≡ width * height) × (length (now band4) ≡ width * height) ⌝ }
     ensures { λ _. ⌜ now (band1 .exit) ≡ listing width height (λ r c. split-plane 1 width height (plane width (now (given .entry))) r c .band1) ⌝ }
@@ -205,7 +205,7 @@ fn join_row(
     high: &mut [i32],
     sums: &mut [i32],
 )
-    requires { ⌜ Sizes width height × (r < height) × Plane to-join (now band1) width height × Plane to-join (now band2) width height × Plane to-join (now band3) width height × Plane to-join (now band4) width height ⌝ }
+    requires { ⌜ Sizes 1 width height × (r < height) × Plane to-join (now band1) width height × Plane to-join (now band2) width height × Plane to-join (now band3) width height × Plane to-join (now band4) width height ⌝ }
     requires { ⌜ (width + 4 ≤ length (now low)) × (width + 4 ≤ length (now high)) × (length (now sums) ≡ width * height) ⌝ }
     ensures { λ _. ⌜ now (sums .exit) ≡ overwrite (now (sums .entry)) (r * width) width (join-bands 1 width height (bands-of width (bands (now (band1 .entry)) (now (band2 .entry)) (now (band3 .entry)) (now (band4 .entry)))) r) ⌝ }
 {
@@ -238,7 +238,7 @@ fn join_rows(
     high: &mut [i32],
     sums: &mut [i32],
 )
-    requires { ⌜ Sizes width height × Plane to-join (now band1) width height × Plane to-join (now band2) width height × Plane to-join (now band3) width height × Plane to-join (now band4) width height ⌝ }
+    requires { ⌜ Sizes 1 width height × Plane to-join (now band1) width height × Plane to-join (now band2) width height × Plane to-join (now band3) width height × Plane to-join (now band4) width height ⌝ }
     requires { ⌜ (width + 4 ≤ length (now low)) × (width + 4 ≤ length (now high)) × (length (now sums) ≡ width * height) ⌝ }
     ensures { λ _. ⌜ now (sums .exit) ≡ listing width height (join-bands 1 width height (bands-of width (bands (now (band1 .entry)) (now (band2 .entry)) (now (band3 .entry)) (now (band4 .entry))))) ⌝ }
 {

@@ -147,7 +147,7 @@ run-alike turns f other s before₁ before₂ {r₁} {r₂} {n₁} {n₂} {at} {
     start = in-between f other false
 
     given : Numbered (finish-call f s before₁) n₁ after₁
-    given = to-number (finish-call f s before₁) p e₁
+    given = to-number p e₁
 
     stood : Numbered (finish-call (turned-all turns start .frame) s before₂) n₂ after₂
-    stood = subst (λ (b : Between). Numbered (finish-call (b .frame) s before₂) n₂ after₂) e (to-number (finish-call (stands at first second .frame) s before₂) q e₂)
+    stood = subst (λ (b : Between). Numbered (finish-call (b .frame) s before₂) n₂ after₂) e (to-number q e₂)

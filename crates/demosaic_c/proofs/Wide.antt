@@ -24,11 +24,11 @@ module _ (w h layout : ℕ) (samples : List ℕ) {l : ℕ} (pl : l ≡ min layou
   -- ---- calls without settings
   pub estimate-returned : (before : Planes (List ℕ)) {r : Answer} {after : Planes (List ℕ)} {n : ℕ} → Result (estimate-call ceiling (frame w h l samples) before) r after → n ≡ number-of-answer r
       → Numbered (estimate-call ceiling (frame w h layout samples) before) n after
-  estimate-returned before e p = shape-carried w h layout pl (λ x. estimate-call ceiling (frame w h x samples) before) _ tt (λ x. refl) refl (to-number _ e p)
+  estimate-returned before e p = shape-carried w h layout pl (λ x. estimate-call ceiling (frame w h x samples) before) _ tt (λ x. refl) refl (to-number e p)
 
   pub update-returned : (green : List ℕ) (work : List ℤ) {r : Answer} {after : List ℕ × List ℤ} {n : ℕ} → Result (update-call ceiling (frame w h l samples) green work) r after → n ≡ number-of-answer r
       → Numbered (update-call ceiling (frame w h layout samples) green work) n after
-  update-returned green work e p = shape-carried w h layout pl (λ x. update-call ceiling (frame w h x samples) green work) _ tt (λ x. refl) refl (to-number _ e p)
+  update-returned green work e p = shape-carried w h layout pl (λ x. update-call ceiling (frame w h x samples) green work) _ tt (λ x. refl) refl (to-number e p)
 
   -- ---- calls with settings
   module _ (rounds threshold : ℕ) {s : Settings} (ps : s ≡ settings (min rounds 255) (min threshold 65535)) where
@@ -36,12 +36,12 @@ module _ (w h layout : ℕ) (samples : List ℕ) {l : ℕ} (pl : l ≡ min layou
         → Numbered (rounds-call (frame w h layout samples) (settings rounds threshold) before) n after
     rounds-returned before e p =
         frame-carried w h layout pl rounds threshold ps (λ x g. rounds-call (frame w h x samples) g before)
-        (λ top. buffer-questions top (w * h) samples (rooms-of before) ++ planes-questions top (before .three)) tt (λ x g. refl) refl (to-number _ e p)
+        (λ top. buffer-questions top (w * h) samples (rooms-of before) ++ planes-questions top (before .three)) tt (λ x g. refl) refl (to-number e p)
 
     pub finish-returned : (before : Lent) {r : Answer} {after : Lent} {n : ℕ} → Result (finish-call (frame w h l samples) s before) r after → n ≡ number-of-answer r
         → Numbered (finish-call (frame w h layout samples) (settings rounds threshold) before) n after
     finish-returned before e p =
-        frame-carried w h layout pl rounds threshold ps (λ x g. finish-call (frame w h x samples) g before) (λ top. buffer-questions top (w * h) samples (rooms-of before)) tt (λ x g. refl) refl (to-number _ e p)
+        frame-carried w h layout pl rounds threshold ps (λ x g. finish-call (frame w h x samples) g before) (λ top. buffer-questions top (w * h) samples (rooms-of before)) tt (λ x g. refl) refl (to-number e p)
 
     -- the writer, and how many bytes it wrote
     pub write-returned : (out : List ℕ) (before : ℕ) {after : List ℕ × ℕ} {n : ℕ} → Numbered (length-call (fields w h l s) samples out before) n after

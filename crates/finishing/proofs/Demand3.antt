@@ -45,8 +45,8 @@ module _ (t : ℕ) (f : Frame) {before after : List ℕ} {r : TurnedFrame} (u : 
 module _ (t : ℕ) (f : Frame) {other : ℕ} (k : Fillable (f .width) (f .height) (f .layout) (length (f .samples)) other) where
   -- one of a frame's two lengths, in range
   in-range : (b : Bool) {n : ℕ} → n ≡ cond b (f .height) (f .width) → between 2 2048 n ≡ true
-  in-range true e = ap (between 2 2048) e ∙ between-yes 2 2048 (f .height) (k .shape .height-from) (k .shape .height-to)
-  in-range false e = ap (between 2 2048) e ∙ between-yes 2 2048 (f .width) (k .shape .width-from) (k .shape .width-to)
+  in-range true e = ap (between 2 2048) e ∙ between-yes 2 2048 (f .height) (k .shape .sizes .height-from) (k .shape .sizes .height-to)
+  in-range false e = ap (between 2 2048) e ∙ between-yes 2 2048 (f .width) (k .shape .sizes .width-from) (k .shape .sizes .width-to)
 
   area : turn-frame t f .width * turn-frame t f .height ≡ f .width * f .height
   area = (λ i. frame-width t f i * frame-height t f i) ∙ either (leb 4 t)
@@ -141,7 +141,7 @@ pub demand-3 : (f : Frame) (turnings : List TurnRun) → TurnHistory f turnings 
     → {r₁ r₂ : Answer} {after₁ after₂ : Lent} → Result (finish-call f s before₁) r₁ after₁ → Result (finish-call (standing f turnings) s before₂) r₂ after₂
     → Alike (accepted-turns turnings) f (number-of-answer r₁) (number-of-answer r₂) (after₁ .three) (after₂ .three)
 demand-3 f turnings h s before₁ before₂ room p q =
-    demand-3-numbered f turnings h s before₁ before₂ room (to-number (finish-call f s before₁) p refl) (to-number (finish-call (standing f turnings) s before₂) q refl)
+    demand-3-numbered f turnings h s before₁ before₂ room (to-number p refl) (to-number q refl)
 
 -- And of the call with a tally, with any two tallies.
 pub demand-3-counted : (f : Frame) (turnings : List TurnRun) → TurnHistory f turnings → (s : Settings) (before₁ before₂ : Lent) → rooms-of before₁ ≡ rooms-of before₂

@@ -6,15 +6,12 @@ use Prim.Native.Nat.{ℕ, _+_, _*_, _≤_}
 use lib.Dec.{leb, ltb}
 use lib.IntN.{ℤ, pos, natAbs, _+ℤ_, _-ℤ_, _*ℤ_}
 use lib.ListN.{length, getD}
+use Rattle.planes.specs.Planes.{Sizes}
 use Rattle.neighbourhood.specs.Place.{greens, two-away}
 
 -- a mosaic of w by h samples, of sizes that the call takes
 pub record Mosaic (samples : List ℕ) (w h : ℕ) : Type 0 where
-  pub width-from : 1 ≤ w
-  pub width-to : w ≤ 2048
-  pub height-from : 1 ≤ h
-  pub height-to : h ≤ 2048
-  pub area : w * h ≤ 4194304
+  pub sizes : Sizes 1 w h
   pub count : length samples ≡ w * h
 
 -- whether place i of a line of n is two places or more from its ends

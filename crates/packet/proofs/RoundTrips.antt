@@ -66,8 +66,8 @@ module _ (older : List ℕ) (f : Fields) (s : List ℕ) (room : ℕ) (k : Writab
   fields-back : fields-of Store ≡ f
   unfolding fields-of trailer bytes-of
   fields-back =
-      let width : f .width < 65536 = omega (arith, k .fields .shape .width-to) in
-      let height : f .height < 65536 = omega (arith, k .fields .shape .height-to) in
+      let width : f .width < 65536 = omega (arith, k .fields .shape .sizes .width-to) in
+      let height : f .height < 65536 = omega (arith, k .fields .shape .sizes .height-to) in
       let layout : f .layout < 256 = omega (arith, k .fields .shape .layout-to) in
       let rounds : f .settings .rounds < 256 = omega (arith, k .fields .rounds) in
       let threshold : f .settings .threshold < 65536 = omega (arith, k .fields .threshold, ceiling-fits (f .settings)) in
@@ -84,7 +84,7 @@ module _ (older : List ℕ) (f : Fields) (s : List ℕ) (room : ℕ) (k : Writab
   distance-back : distance-in Store ≡ distance f
   unfolding trailer bytes-of
   distance-back =
-      let small : distance f < 4294967296 = omega (arith, k .fields .shape .area) in
+      let small : distance f < 4294967296 = omega (arith, k .fields .shape .sizes .area) in
       read-back 4 8 (distance f) [] refl small
 
   part-back : sample-part Store ≡ sample-bytes s

@@ -2,13 +2,21 @@
 use mathlib.Core.Path.{_≡_, refl, sym, _∙_, ap, subst}
 use mathlib.Core.List.{List}
 use Prim.Native.Nat.{ℕ, zero, suc, _+_, _*_, _/_, _%_, _≤_, _<_}
-use native.Mathlib.Nat.{mod-lt, div-lt-iff-lt-mul, mul-comm, suc-mul, zero-mul, mul-le-mul-right, div-add-mod'}
+use native.Mathlib.Nat.{mod-lt, div-lt-iff-lt-mul, mul-comm, suc-mul, zero-mul, mul-le-mul, mul-le-mul-right, div-add-mod'}
 use native.Mathlib.Omega.{arith}
 use lib.Arith.{digits-div, digits-mod, digits-lt}
 use lib.ListN.{length, getD}
 use Rattle.integers.specs.Lists.{overwrite}
 use Rattle.integers.proofs.Lists.{length-tabulate, getD-tabulate, tabulate-cong, tabulate-getD, overwrite-none, overwrite-append, overwrite-all}
-use Rattle.planes.specs.Planes.{listing, plane-of, Agree}
+use Rattle.planes.specs.Planes.{listing, plane-of, Agree, Sizes}
+
+-- ---- a plane's sizes
+pub sized : {least w h : ℕ} → least ≤ w → w ≤ 2048 → least ≤ h → h ≤ 2048 → Sizes least w h
+sized a b c d = record { width-from = a; width-to = b; height-from = c; height-to = d; area = mul-le-mul b d }
+
+-- from 2 on they are from 1 on
+pub sizes-from-1 : {w h : ℕ} → Sizes 2 w h → Sizes 1 w h
+sizes-from-1 z = sized (omega (arith, z .width-from)) (z .width-to) (omega (arith, z .height-from)) (z .height-to)
 
 -- ---- place k of a plane w by h
 pub width-pos : (w h k : ℕ) → k < w * h → 0 < w

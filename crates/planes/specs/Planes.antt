@@ -1,7 +1,7 @@
 -- Planes, the lists that hold them row by row, and frames. Assumes nothing.
 use mathlib.Core.Path.{_≡_}
 use mathlib.Core.List.{List}
-use Prim.Native.Nat.{ℕ, _+_, _*_, _/_, _%_, _<_}
+use Prim.Native.Nat.{ℕ, _+_, _*_, _/_, _%_, _≤_, _<_}
 use lib.ListN.{getD, length}
 use Rattle.integers.specs.Lists.{tabulate}
 
@@ -18,6 +18,14 @@ module _ {A : Type 0} where
 -- two planes that agree inside w by h: the same plane
 abbrev pub Agree : {A : Type 0} → ℕ → ℕ → (ℕ → ℕ → A) → (ℕ → ℕ → A) → Type 0
 Agree w h p q = (r c : ℕ) → r < h → c < w → p r c ≡ q r c
+
+-- a width and a height from `least` to 2,048, and so at most 2,048 · 2,048 places
+pub record Sizes (least w h : ℕ) : Type 0 where
+  pub width-from : least ≤ w
+  pub width-to : w ≤ 2048
+  pub height-from : least ≤ h
+  pub height-to : h ≤ 2048
+  pub area : w * h ≤ 4194304
 
 -- ---- three planes, and frames
 -- one of a kind for each of the three planes: three lists, their lengths, or the three samples at a place

@@ -1,9 +1,8 @@
 -- The laws of asking: what each return of a check shows (`search asking`), and what an accepted call knows. Assumes nothing.
-use Prim.Native.Nat.{ℕ, zero, suc, _+_, _*_, _≤_, _<_, max}
+use Prim.Native.Nat.{ℕ, zero, suc, _+_, _≤_, _<_, max}
 use mathlib.Core.Path.{_≡_, refl, ap, _∙_, sym}
 use mathlib.Core.Bool.{Bool, true, false, cond, _&&_, and-assoc}
 use mathlib.Core.List.{List, [], _∷_, _++_}
-use native.Mathlib.Nat.{mul-le-mul}
 use native.Mathlib.Numerals.{add-one}
 use native.Mathlib.Omega.{arith}
 use lib.Dec.{T, leb, eqb, le→leb, leb→le}
@@ -11,8 +10,10 @@ use lib.ListN.{length, getD}
 use borrow.Author.Tests.{le-leb, lt-leb, eq-eqb, ne-eqb, leb-true}
 use Rattle.integers.specs.Lists.{tabulate}
 use Rattle.integers.proofs.Tests.{never, and-left, and-right, both, same-test}
+use Rattle.planes.specs.Planes.{Sizes}
+use Rattle.planes.proofs.Planes.{sized}
 use Rattle.questions.specs.Settings.{ceiling-of}
-use Rattle.questions.specs.Questions.{Question, question, ask, between, all-at-most, shape-questions}
+use Rattle.questions.specs.Questions.{Question, question, ask, between, all-at-most, size-questions, shape-questions}
 use Rattle.questions.specs.declared.Settings.{Settings}
 
 -- ---- at a return
@@ -97,6 +98,10 @@ pub ask-later : (ps qs : List Question) (n : ℕ) → AllYes ps → n ≡ ask qs
 ask-later [] qs n y e = e
 ask-later (p ∷ ps) qs n y e = ask-yes (p .yes) n (p .number) (ps ++ qs) (y .0) (ask-later ps qs n (y .1) e)
 
+-- where n is what a check of the first answered
+pub ask-then : (ps qs : List Question) (n m : ℕ) → n ≡ ask ps → T (numbered ps) → n ≡ 0 → m ≡ ask qs → m ≡ ask (ps ++ qs)
+ask-then ps qs n m e t z r = ask-later ps qs m (all-yes ps t n e z) r
+
 -- ---- what a yes says
 pub between-is : (low high n : ℕ) → between low high n ≡ true → (low ≤ n) × (n ≤ high)
 unfolding between
@@ -106,31 +111,24 @@ between-is low high n e = go (leb low n) refl
     go true p = (leb-true low n p, leb-true n high (ap (λ (b : Bool). b && leb n high) (sym p) ∙ e))
     go false p = never (sym e ∙ ap (λ (b : Bool). b && leb n high) p)
 
--- the number of a frame's samples is small
-pub area-bound : {w h : ℕ} → w ≤ 2048 → h ≤ 2048 → w * h ≤ 4194304
-area-bound a b = mul-le-mul a b
+-- 1 and 2 answered yes
+pub sizes-is : (least w h : ℕ) → AllYes (size-questions least w h) → Sizes least w h
+sizes-is least w h y =
+    let p = between-is least 2048 w (y .0) in
+    let q = between-is least 2048 h (y .1 .0) in
+    sized (p .0) (p .1) (q .0) (q .1)
 
--- the sizes of a frame, where 1, 2 and 3 are answered yes
+-- 1, 2 and 3 of a frame answered yes
 pub record Shape (w h l : ℕ) : Type 0 where
-  pub width-from : 2 ≤ w
-  pub width-to : w ≤ 2048
-  pub height-from : 2 ≤ h
-  pub height-to : h ≤ 2048
+  pub sizes : Sizes 2 w h
   pub layout-to : l ≤ 3
-  pub area : w * h ≤ 4194304
 
 pub shape-is : (w h l : ℕ) → AllYes (shape-questions w h l) → Shape w h l
-shape-is w h l y =
-    let p = between-is 2 2048 w (y .0) in
-    let q = between-is 2 2048 h (y .1 .0) in
-    record {
-      width-from = p .0;
-      width-to = p .1;
-      height-from = q .0;
-      height-to = q .1;
-      layout-to = leb-true l 3 (y .1 .1 .0);
-      area = area-bound (p .1) (q .1);
-    }
+shape-is w h l y = record { sizes = sizes-is 2 w h (y .0, (y .1 .0, tt)); layout-to = leb-true l 3 (y .1 .1 .0) }
+
+-- where n is what a check of 1, 2 and then qs answered
+pub sizes-known : (least w h : ℕ) (qs : List Question) (n : ℕ) → n ≡ ask (size-questions least w h ++ qs) → T (numbered qs) → n ≡ 0 → Sizes least w h
+sizes-known least w h qs n e t z = sizes-is least w h (all-yes-split (size-questions least w h) qs (all-yes (size-questions least w h ++ qs) t n e z) .0)
 
 -- every ceiling fits two bytes
 pub ceiling-fits : (s : Settings) → ceiling-of s < 65536

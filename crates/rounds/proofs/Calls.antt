@@ -38,10 +38,7 @@ module _ (f : Frame) (s : Settings) (before : Lent) (n : ℕ) (e : n ≡ ask (ro
       let y = known .1 in
       let u = shape-is (f .width) (f .height) (f .layout) (all-yes-split (shape-questions (f .width) (f .height) (f .layout)) (settings-questions s) (known .0) .0) in
       record {
-        width-from = u .width-from;
-        width-to = u .width-to;
-        height-from = u .height-from;
-        height-to = u .height-to;
+        sizes = u .sizes;
         samples = eqb-true (length (f .samples)) count (search y);
         greens = eqb-true (length (before .three .green)) count (search y);
         work = leb-true (8 * count) (length (before .work)) (search y);

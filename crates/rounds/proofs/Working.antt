@@ -15,7 +15,7 @@ use Rattle.integers.proofs.Lists.{tabulate-cong}
 use Rattle.planes.specs.Planes.{listing, plane-of, Agree}
 use Rattle.planes.specs.Lists.{value, sample, put}
 use Rattle.planes.specs.Places.{half, place}
-use Rattle.planes.proofs.Planes.{place-inside}
+use Rattle.planes.proofs.Planes.{sizes-from-1, place-inside}
 use Rattle.filters.specs.Bank.{Distance}
 use Rattle.projection.specs.Projection.{projected}
 use Rattle.projection.proofs.Projection.{projected-agrees}
@@ -50,7 +50,7 @@ pub projectable : (w h : ℕ) (mosaic green : List ℕ) (work : List ℤ) → Wo
     → Projectable (given w h limit) work green
 unfolding own-plane guide-plane
 projectable w h mosaic green work u n sg limit distance = record {
-  size = record { width-from = omega (arith, u .width-from); width-to = u .width-to; height-from = omega (arith, u .height-from); height-to = u .height-to };
+  sizes = sizes-from-1 (u .sizes);
   limit = distance;
   inside = n .inside;
   small = λ k hk. omega (arith, n .small k hk);

@@ -13,6 +13,7 @@ use Rattle.integers.proofs.Lists.{length-overwrite, overwrite-in, overwrite-aft
 use Rattle.border.specs.Border.{reflect}
 use Rattle.border.proofs.Reflection.{reflect-lt, reflect-inside, reflect-before, reflect-after}
 use Rattle.planes.specs.Lists.{InRow, value}
+use Rattle.planes.specs.Planes.{Sizes}
 use Rattle.planes.proofs.Planes.{row-room, place-inside, row-inside, column-inside}
 use Rattle.filters.specs.Bank.{Taps, rescaled, weighted, tap, along, along-columns, low-split, high-split, high-join}
 use Rattle.filters.proofs.Taps.{weighted-three}
@@ -25,7 +26,7 @@ use Rattle.projection.proofs.Projection.{held-sum-fast}
 use Rattle.projection.proofs.Parts.{low-line, high-line, apart-plane, together-plane, apart-range, together-range, apart-inside, together-inside, crossed-parts}
 use Rattle.details.specs.Details.{difference-line, guide-value, crossed, settled}
 use Rattle.sweep.specs.declared.Given.{Given}
-use Rattle.sweep.specs.Planes.{own-plane, guide-plane, reach, Sized, Projectable, with-projected}
+use Rattle.sweep.specs.Planes.{own-plane, guide-plane, reach, Projectable, with-projected}
 use Rattle.sweep.specs.Rows.{slot, row-at, guide-at, difference-row, ring-line, RingRows, ring-apart, ring-together, settled-row, with-settled, Settleable}
 use Rattle.sweep.proofs.Rows.{slot-room, four}
 
@@ -156,26 +157,26 @@ module _ (g : Given) (least most : ℤ) (own : List ℤ) (guide : List ℕ) wher
 
     line-small : (t : Taps) → gain t ≤ 4 → (r c : ℕ) → c < w → natAbs (along-columns t 1 h D r c) ≤ 524280
     unfolding along-columns
-    line-small t few r c j = le-trans (along-range t 1 h reach (λ i. D i c) (p .size .height-from) (λ i k. difference-small i c k j) r) (omega (arith, mul-le-mul-right 131070 few))
+    line-small t few r c j = le-trans (along-range t 1 h reach (λ i. D i c) (p .sizes .height-from) (λ i k. difference-small i c k j) r) (omega (arith, mul-le-mul-right 131070 few))
 
     apart-small : (r c : ℕ) → natAbs (A r c) ≤ 75496320
-    apart-small r c = apart-range limit (p .limit .sign) w 524280 (p .size .width-from) (low-line limit w h D r) (high-line limit w h D r) (λ k j. line-small low-split (four .0) r k j) (λ k j. line-small high-split (four .1) r k j) c
+    apart-small r c = apart-range limit (p .limit .sign) w 524280 (p .sizes .width-from) (low-line limit w h D r) (high-line limit w h D r) (λ k j. line-small low-split (four .0) r k j) (λ k j. line-small high-split (four .1) r k j) c
 
     together-small : (r c : ℕ) → natAbs (B r c) ≤ 75496320
-    together-small r c = together-range limit (p .limit .sign) w 524280 (p .size .width-from) (low-line limit w h D r) (high-line limit w h D r) (λ k j. line-small low-split (four .0) r k j) (λ k j. line-small high-split (four .1) r k j) c
+    together-small r c = together-range limit (p .limit .sign) w 524280 (p .sizes .width-from) (low-line limit w h D r) (high-line limit w h D r) (λ k j. line-small low-split (four .0) r k j) (λ k j. line-small high-split (four .1) r k j) c
 
     -- ---- the ring of differences
     whole : own ≡ with-rows (0 - 2)
     whole = overwrite-none own at _ ∙ ap (λ (n : ℕ). overwrite own at n (λ k. settled-plane (k / w) (k % w))) (sym (zero-mul w))
 
     pub first-rows : Run reach own (row-at g 0) w × InRow guide w (guide-at g 0) (g .across)
-    first-rows = (own-row (omega arith) whole 0 (omega arith) (p .size .height-from), guide-row (omega arith) whole 0 (p .size .height-from))
+    first-rows = (own-row (omega arith) whole 0 (omega arith) (p .sizes .height-from), guide-row (omega arith) whole 0 (p .sizes .height-from))
 
     -- with row 0
     pub start : (ring apart together : List ℤ) → 3 * w ≤ length ring → {laid : List ℤ} → laid ≡ overwrite ring (slot 3 w 0) w (difference-row g own guide 0) → Swept own laid apart together 0
     start ring apart together room e = record {
       plane = whole;
-      differences = ring-laid 3 w (omega arith) ring room D 0 0 (record { holds = λ q c i j. absurd (omega arith) }) 0 _ e (λ c k. difference-at (omega arith) whole 0 (omega arith) (p .size .height-from) c k) 0 (min 1 h) (omega arith) (omega arith) (omega (arith, p .size .height-from)) (λ q i j d. absurd (d (omega arith)));
+      differences = ring-laid 3 w (omega arith) ring room D 0 0 (record { holds = λ q c i j. absurd (omega arith) }) 0 _ e (λ c k. difference-at (omega arith) whole 0 (omega arith) (p .sizes .height-from) c k) 0 (min 1 h) (omega arith) (omega arith) (omega (arith, p .sizes .height-from)) (λ q i j d. absurd (d (omega arith)));
       aparts = record { holds = λ q c i j. absurd (omega arith) };
       togethers = record { holds = λ q c i j. absurd (omega arith) };
     }
@@ -189,10 +190,10 @@ module _ (g : Given) (least most : ℤ) (own : List ℤ) (guide : List ℕ) wher
         within q a b k = (omega (arith, inside r i j .0), omega (arith, inside r i j .1))
 
         back-row : (k : ℕ) → k ≤ 2 → let q = reflect h (pos r -ℤ pos k) in (lo ≤ q) × (q < hi)
-        back-row k a = let q = reflect-before h r k (omega arith) in within (reflect h (pos r -ℤ pos k)) (omega (arith, q .0)) (omega (arith, q .1)) (reflect-lt h (p .size .height-from) (pos r -ℤ pos k))
+        back-row k a = let q = reflect-before h r k (omega arith) in within (reflect h (pos r -ℤ pos k)) (omega (arith, q .0)) (omega (arith, q .1)) (reflect-lt h (p .sizes .height-from) (pos r -ℤ pos k))
 
         ahead-row : (k : ℕ) → k ≤ 2 → let q = reflect h (pos r +ℤ pos k) in (lo ≤ q) × (q < hi)
-        ahead-row k a = let q = reflect-after h r k (omega arith) in within (reflect h (pos r +ℤ pos k)) (omega (arith, q .0)) (omega (arith, q .1)) (reflect-lt h (p .size .height-from) (pos r +ℤ pos k))
+        ahead-row k a = let q = reflect-after h r k (omega arith) in within (reflect h (pos r +ℤ pos k)) (omega (arith, q .0)) (omega (arith, q .1)) (reflect-lt h (p .sizes .height-from) (pos r +ℤ pos k))
 
         own-in : (lo ≤ r) × (r < hi)
         own-in = within r (omega arith) (omega arith) (omega arith)
@@ -211,7 +212,7 @@ module _ (g : Given) (least most : ℤ) (own : List ℤ) (guide : List ℕ) wher
 
       pub settleable : Settleable g now apart together f n
       settleable = record {
-        size = p .size;
+        sizes = p .sizes;
         from = le;
         to = to;
         inside = omega (arith, long (omega arith) is, rows-area n to);
@@ -257,10 +258,10 @@ module _ (g : Given) (least most : ℤ) (own : List ℤ) (guide : List ℕ) wher
           same k b = settled-is (f + k / w) (k % w) (omega arith) (omega (arith, row)) column ∙ sym (λ j. settled-plane (split .0 j) (split .1 j))
             where
               row : k / w < n - f
-              row = div-lt-iff-lt-mul (p .size .width-from) .1 b
+              row = div-lt-iff-lt-mul (p .sizes .width-from) .1 b
 
               column : k % w < w
-              column = mod-lt k (p .size .width-from)
+              column = mod-lt k (p .sizes .width-from)
 
               here : f * w + k ≡ (f + k / w) * w + k % w
               here = omega (arith, add-mul f (k / w) w, div-add-mod' k w)
@@ -274,7 +275,7 @@ module _ (g : Given) (least most : ℤ) (own : List ℤ) (guide : List ℕ) wher
       next = reflect h (pos (r + 1))
 
       next-near : (r ≤ next + 1) × (next ≤ r + 1) × (next < h)
-      next-near = let q = reflect-after h r 1 i in (q .0, q .1, reflect-lt h (p .size .height-from) (pos (r + 1)))
+      next-near = let q = reflect-after h r 1 i in (q .0, q .1, reflect-lt h (p .sizes .height-from) (pos (r + 1)))
 
       -- code's number x of that row
       module _ {x : ℕ} (is-x : x ≡ next) where
@@ -316,7 +317,7 @@ module _ (g : Given) (least most : ℤ) (own : List ℤ) (guide : List ℕ) wher
         before = reflect h (pos r -ℤ pos 1)
 
         before-near : (r ≤ before + 1) × (before ≤ r + 1) × (before < h)
-        before-near = let q = reflect-before h r 1 i in (q .0, q .1, reflect-lt h (p .size .height-from) (pos r -ℤ pos 1))
+        before-near = let q = reflect-before h r 1 i in (q .0, q .1, reflect-lt h (p .sizes .height-from) (pos r -ℤ pos 1))
 
         pub ring-rows : RingRows g ring' r
         ring-rows = record {
@@ -334,10 +335,10 @@ module _ (g : Given) (least most : ℤ) (own : List ℤ) (guide : List ℕ) wher
             ∙ weighted-three t z _ _ _ _ _
 
         apart-is : (c : ℕ) → c < w → ring-apart g ring' r c ≡ A r c
-        apart-is c m = apart-inside limit w (p .size .width-from) _ _ _ _ (line-is low-split (unfold low-split in refl)) (line-is high-split (unfold high-split in refl)) c
+        apart-is c m = apart-inside limit w (p .sizes .width-from) _ _ _ _ (line-is low-split (unfold low-split in refl)) (line-is high-split (unfold high-split in refl)) c
 
         together-is : (c : ℕ) → c < w → ring-together g ring' r c ≡ B r c
-        together-is c m = together-inside limit w (p .size .width-from) _ _ _ _ (line-is low-split (unfold low-split in refl)) (line-is high-split (unfold high-split in refl)) c
+        together-is c m = together-inside limit w (p .sizes .width-from) _ _ _ _ (line-is low-split (unfold low-split in refl)) (line-is high-split (unfold high-split in refl)) c
 
         parts-ring : (f : ℕ → ℕ → ℤ) (g : ℕ → ℤ) → ((c : ℕ) → c < w → g c ≡ f r c) → (l : List ℤ) → 5 * w ≤ length l → Ring 5 w l f (r - 4) r → {l' : List ℤ} → l' ≡ overwrite l (slot 5 w r) w g → Ring 5 w l' f (r - 4) (r + 1)
         parts-ring f g is l fit old laid = ring-laid 5 w (omega arith) l fit f (r - 4) r old r g laid is (r - 4) (r + 1) (omega arith) (omega arith) (omega arith) (λ q j k d. (j, omega arith))
@@ -377,13 +378,13 @@ module _ (g : Given) (least most : ℤ) (own : List ℤ) (guide : List ℕ) wher
             }
 
   -- ---- the settled plane is the projected plane
-  pub settled-projected : Sized g → (r c : ℕ) → r < h → c < w → settled-plane r c ≡ projected limit least most w h (guide-plane g guide) (own-plane g own) r c
+  pub settled-projected : Sizes 1 (g .width) (g .height) → (r c : ℕ) → r < h → c < w → settled-plane r c ≡ projected limit least most w h (guide-plane g guide) (own-plane g own) r c
   unfolding settled-plane settled projected
   settled-projected size r c i j =
       ap (rescaled 1024 least most)
       (ap (λ z. pos 1024 *ℤ own-plane g own r c -ℤ z) (crossed-parts limit w h D r c) ∙ sym (held-sum-fast w h (size .width-from) (size .height-from) limit 1 (guide-plane g guide) (own-plane g own) r c i j))
 
-  pub all-projected : Sized g → {now : List ℤ} → now ≡ with-rows h → now ≡ with-projected g least most own guide
+  pub all-projected : Sizes 1 (g .width) (g .height) → {now : List ℤ} → now ≡ with-rows h → now ≡ with-projected g least most own guide
   unfolding with-projected
   all-projected size e =
       e ∙ ap (λ (n : ℕ). overwrite own at n (λ k. settled-plane (k / w) (k % w))) (mul-comm h w)

@@ -5,6 +5,7 @@ use Prim.Native.Nat.{ℕ, _+_, _*_, _/_, _%_, _≤_, _<_}
 use lib.IntN.{ℤ, pos, natAbs, _-ℤ_}
 use lib.ListN.{getD, length}
 use Rattle.integers.specs.Lists.{overwrite}
+use Rattle.planes.specs.Planes.{Sizes}
 use Rattle.planes.specs.Lists.{value}
 use Rattle.filters.specs.Bank.{Distance}
 use Rattle.projection.specs.Projection.{projected}
@@ -22,16 +23,9 @@ guide-plane g guide r c = pos (getD guide (g .from + r * g .down + c * g .across
 abbrev pub reach : ℕ
 reach = 131070
 
--- the sizes that are taken
-pub record Sized (g : Given) : Type 0 where
-  pub width-from : 1 ≤ g .width
-  pub width-to : g .width ≤ 2048
-  pub height-from : 1 ≤ g .height
-  pub height-to : g .height ≤ 2048
-
 -- a plane and its guide that can be projected
 pub record Projectable (g : Given) (own : List ℤ) (guide : List ℕ) : Type 0 where
-  pub size : Sized g
+  pub sizes : Sizes 1 (g .width) (g .height)
   pub limit : Distance (g .limit)
   pub inside : g .at + g .width * g .height ≤ length own
   pub small : (k : ℕ) → k < g .width * g .height → natAbs (value own (g .at + k)) ≤ reach

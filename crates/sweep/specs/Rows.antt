@@ -5,13 +5,14 @@ use lib.IntN.{ℤ, pos, _+ℤ_, _-ℤ_}
 use lib.ListN.{length}
 use Rattle.integers.specs.Lists.{overwrite}
 use Rattle.border.specs.Border.{reflect}
+use Rattle.planes.specs.Planes.{Sizes}
 use Rattle.filters.specs.Bank.{Taps, low-split, high-split}
 use Rattle.lines.specs.declared.Five.{Five}
 use Rattle.lines.specs.Lines.{Run, three}
 use Rattle.projection.specs.Fast.{apart-row, together-row}
 use Rattle.details.specs.Details.{difference-line, Crossing, crossed, settled}
 use Rattle.sweep.specs.declared.Given.{Given}
-use Rattle.sweep.specs.Planes.{Sized, own-plane, reach}
+use Rattle.sweep.specs.Planes.{own-plane, reach}
 
 -- where row q of width w begins in a ring of n slots; and where the row begins that an index means in a plane
 abbrev pub slot : ℕ → ℕ → ℕ → ℕ
@@ -64,7 +65,7 @@ with-settled g least most own apart together f n =
 
 -- those rows can be settled
 pub record Settleable (g : Given) (own apart together : List ℤ) (f n : ℕ) : Type 0 where
-  pub size : Sized g
+  pub sizes : Sizes 1 (g .width) (g .height)
   pub from : f ≤ n
   pub to : n ≤ g .height
   pub inside : row-at g n ≤ length own

@@ -6,9 +6,10 @@ ghost use lib.IntN.{pos, _+ℤ_, _-ℤ_};
 ghost use lib.ListN.{length};
 ghost use Rattle.integers.specs.Lists.{overwrite};
 ghost use Rattle.planes.specs.Lists.{InRow};
+ghost use Rattle.planes.specs.Planes.{Sizes};
 ghost use Rattle.filters.specs.Bank.{Distance};
 ghost use Rattle.lines.specs.Lines.{Run};
-ghost use Rattle.sweep.specs.Planes.{Sized, reach, Projectable, with-projected};
+ghost use Rattle.sweep.specs.Planes.{reach, Projectable, with-projected};
 ghost use Rattle.sweep.specs.Rows.{slot, slot-of, row-at, guide-at, difference-row, RingRows, ring-apart, ring-together, five-slots, with-settled, Settleable};
 
 // What a projection is given, beside the two lists.
@@ -28,7 +29,7 @@ pub struct Given {
 
 // Where a ring of n slots has the row that stands `back` rows before row r.
 fn slot_before(given: Given, n: usize, r: usize, back: usize) -> usize
-    requires { ⌜ (1 ≤ n) × (n ≤ 5) × Sized given ⌝ }
+    requires { ⌜ (1 ≤ n) × (n ≤ 5) × Sizes 1 (given .width) (given .height) ⌝ }
     ensures { λ s. ⌜ (s ≡ slot-of n given (pos r -ℤ pos back)) × (s + given .width ≤ n * given .width) ⌝ }
 {
     border::reflected_before(given.height, r, back) % n * given.width
@@ -36,7 +37,7 @@ fn slot_before(given: Given, n: usize, r: usize, back: usize) -> usize
 
 // And the row that stands `ahead` rows after it.
 fn slot_after(given: Given, n: usize, r: usize, ahead: usize) -> usize
-    requires { ⌜ (1 ≤ n) × (n ≤ 5) × Sized given × (r < given .height) × (ahead ≤ 2) ⌝ }
+    requires { ⌜ (1 ≤ n) × (n ≤ 5) × Sizes 1 (given .width) (given .height) × (r < given .height) × (ahead ≤ 2) ⌝ }
     ensures { λ s. ⌜ (s ≡ slot-of n given (pos r +ℤ pos ahead)) × (s + given .width ≤ n * given .width) ⌝ }
 {
     border::reflected(given.height, r + ahead) % n * given.width
@@ -44,7 +45,7 @@ fn slot_after(given: Given, n: usize, r: usize, ahead: usize) -> usize
 
 // Where a ring of five slots has the rows from two before row r to two after it.
 fn five_slots(given: Given, r: usize) -> lines::Five
-    requires { ⌜ Sized given × (r < given .height) ⌝ }
+    requires { ⌜ Sizes 1 (given .width) (given .height) × (r < given .height) ⌝ }
     ensures { λ starts. ⌜ starts ≡ five-slots given r ⌝ }
 {
     let a = slot_before(given, 5, r, 2);
@@ -58,7 +59,7 @@ fn five_slots(given: Given, r: usize) -> lines::Five
 // Row r of the differences, into its slot of the ring.
 fn difference_row(own: &[i32], guide: &[u16], given: Given, r: usize, ring: &mut [i32])
     requires { ⌜ Run reach (now own) (row-at given r) (given .width) × InRow (now guide) (given .width) (guide-at given r) (given .across) ⌝ }
-    requires { ⌜ Sized given × (3 * given .width ≤ length (now ring)) ⌝ }
+    requires { ⌜ Sizes 1 (given .width) (given .height) × (3 * given .width ≤ length (now ring)) ⌝ }
     ensures { λ _. ⌜ now (ring .exit) ≡ overwrite (now (ring .entry)) (slot 3 (given .width) r) (given .width) (difference-row given (now (own .entry)) (now (guide .entry)) r) ⌝ }
 {
     let n = given.width;
@@ -86,7 +87,7 @@ fn parts_row(
     apart: &mut [i32],
     together: &mut [i32],
 )
-    requires { ⌜ Sized given × (r < given .height) × Distance (given .limit) × RingRows given (now differences) r ⌝ }
+    requires { ⌜ Sizes 1 (given .width) (given .height) × (r < given .height) × Distance (given .limit) × RingRows given (now differences) r ⌝ }
     requires { ⌜ (given .width + 2 ≤ length (now low)) × (given .width + 2 ≤ length (now high)) × (given .width + 4 ≤ length (now parts)) × (given .width + 4 ≤ length (now minus)) × (given .width + 4 ≤ length (now plus)) ⌝ }
     requires { ⌜ (5 * given .width ≤ length (now apart)) × (5 * given .width ≤ length (now together)) ⌝ }
     ensures { λ _. ⌜ now (apart .exit) ≡ overwrite (now (apart .entry)) (slot 5 (given .width) r) (given .width) (ring-apart given (now (differences .entry)) r) ⌝ }

@@ -25,12 +25,8 @@ pub update-workable : (top : ℕ) (f : Frame) (green : List ℕ) (room n : ℕ) 
 update-workable top f green room n e z =
     let count = f .width * f .height in
     let y = all-yes-split (shape-questions (f .width) (f .height) (f .layout)) (updating-questions top count (f .samples) green room) (all-yes (update-questions top f green room) tt n e z) in
-    let s = shape-is (f .width) (f .height) (f .layout) (y .0) in
     record {
-      width-from = s .width-from;
-      width-to = s .width-to;
-      height-from = s .height-from;
-      height-to = s .height-to;
+      sizes = shape-is (f .width) (f .height) (f .layout) (y .0) .sizes;
       samples = eqb-true (length (f .samples)) count (y .1 .0);
       greens = eqb-true (length green) count (y .1 .1 .0);
       work = leb-true (8 * count) room (y .1 .1 .1 .0);

@@ -19,7 +19,7 @@ use Rattle.integers.proofs.Lists.{tabulate-cong, tabulate-getD, length-overwrit
 use Rattle.planes.specs.Planes.{listing, plane-of, Agree}
 use Rattle.planes.specs.Lists.{value, sample, put}
 use Rattle.planes.specs.Places.{half, place}
-use Rattle.planes.proofs.Planes.{row-inside, column-inside, place-inside, plane-of-listing, listing-agree}
+use Rattle.planes.proofs.Planes.{sized, row-inside, column-inside, place-inside, plane-of-listing, listing-agree}
 use Rattle.planes.proofs.Places.{length-put, second-inside, small-inside, row-place, small-place, nearer-in-list, put-colour}
 use Rattle.filters.specs.Bank.{Distance}
 use Rattle.projection.specs.Projection.{projected}
@@ -80,12 +80,7 @@ module _ (w h a b : ℕ) (ha : a < 2) (hb : b < 2) where
           → Projectable (given from down across limit) gathered mosaic
       unfolding own-plane guide-plane sample half
       projectable u sm sg from down across limit p q r distance = record {
-        size = record {
-          width-from = omega (arith, u .width-from);
-          width-to = omega (arith, u .width-to);
-          height-from = omega (arith, u .height-from);
-          height-to = omega (arith, u .height-to);
-        };
+        sizes = sized (omega (arith, u .sizes .width-from)) (omega (arith, u .sizes .width-to)) (omega (arith, u .sizes .height-from)) (omega (arith, u .sizes .height-to));
         limit = distance;
         inside = omega (arith, room, ap length e, length-overwrite work 0 (columns * rows) (λ k. sample green (at-place k)) (omega arith));
         small = λ k hk. omega (arith, bound k hk);

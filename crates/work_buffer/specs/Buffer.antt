@@ -7,6 +7,7 @@ use lib.IntN.{ℤ, pos, natAbs}
 use lib.ListN.{length}
 use lib.Signed.{nonNeg}
 use Rattle.integers.specs.Lists.{overwrite}
+use Rattle.planes.specs.Planes.{Sizes}
 use Rattle.planes.specs.Lists.{value}
 
 -- a work buffer whose first w·h numbers are a plane, row by row
@@ -26,10 +27,7 @@ pub record Narrow (l : List ℤ) (o n : ℕ) : Type 0 where
 
 -- a frame's sizes, a mosaic and a green plane of that size, and a work buffer that is long enough
 pub record Workable (w h : ℕ) (mosaic green : List ℕ) (room : ℕ) : Type 0 where
-  pub width-from : 2 ≤ w
-  pub width-to : w ≤ 2048
-  pub height-from : 2 ≤ h
-  pub height-to : h ≤ 2048
+  pub sizes : Sizes 2 w h
   pub samples : length mosaic ≡ w * h
   pub greens : length green ≡ w * h
   pub work : 8 * (w * h) ≤ room

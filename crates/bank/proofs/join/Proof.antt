@@ -1,17 +1,14 @@
 -- `bank::join` meets its contract: one check, one branch, and then the sums.
 -- Assumes nothing.
-use mathlib.Core.Path.{refl}
 use mathlib.Core.List.{List}
 use native.Mathlib.Omega.{arith}
 use lib.IntN.{ℤ}
 use lib.ListN.{length}
 use denote.Ref.{now}
 use borrow.Author.Needs.{needs}
-use Rattle.questions.specs.Calls.{Call}
-use Rattle.questions.specs.declared.Answer.{Answer}
-use Rattle.questions.proofs.Answering.{refuses, accepts}
+use Rattle.questions.proofs.Answering.{refuses, plain-accepts}
 use Rattle.filters.specs.Bank.{Bands}
-use Rattle.bank.specs.Calls.{bands, join-list, join-call}
+use Rattle.bank.specs.Calls.{bands, join-list}
 use Rattle.bank.proofs.Calls.{Joinable, joinable}
 use Rattle.bank.proofs.join.Statement.{statement}
 use Rattle.bank.proofs.join.Tie as tie
@@ -23,12 +20,8 @@ join-refusal-requires c κs = search needs
 abbrev Given : tie.Start → Bands (List ℤ)
 Given s = let a = s .args in bands (now (a .band1)) (now (a .band2)) (now (a .band3)) (now (a .band4))
 
--- the call, by where it starts
-abbrev call : tie.Start → Call Answer (List ℤ)
-call s = let a = s .args in join-call (a .width) (a .height) (Given s) (now (a .sums))
-
 returns : tie.Need-returns
-returns c = refuses (call (c .before .before)) _ (c .before .join-refusal .ensures) (c .if1 .taken)
+returns c = refuses (c .before .join-refusal .ensures) (c .if1 .taken)
 
 slice-aggregate-join-rows : tie.Need-slice-aggregate-join-rows
 slice-aggregate-join-rows c = search needs
@@ -53,7 +46,7 @@ returns-2 : tie.Need-returns-2
 unfolding join-list
 returns-2 c =
     let k = c .before .before .before .before .before .before .before in
-    accepts (call (k .before .before)) (k .before .join-refusal .result) (k .before .join-refusal .ensures) (k .if1 .left) refl refl (c .before .before .before .join-rows .ensures)
+    plain-accepts (k .before .join-refusal .ensures) (k .if1 .left) (c .before .before .before .join-rows .ensures)
 
 pub join-spec : {M : Type 1} → statement M
 join-spec =

@@ -1,14 +1,8 @@
 -- `bank::join_refusal` meets its contract: 1 and 2, then 6, 7 and 15.
 -- Assumes nothing.
-use mathlib.Core.Path.{_≡_}
-use Prim.Native.Nat.{ℕ, _*_}
 use native.Mathlib.Omega.{arith}
-use denote.Ref.{now}
 use borrow.Author.Needs.{needs}
-use Rattle.questions.specs.Questions.{ask, size-questions}
-use Rattle.questions.proofs.Asking.{asking, ask-first, ask-later, AllYes, all-yes}
-use Rattle.bank.specs.Calls.{bands, joining-questions, join-questions}
-use Rattle.bank.proofs.Calls.{sizes-is}
+use Rattle.questions.proofs.Asking.{asking, ask-first, ask-then, sizes-known}
 use Rattle.bank.proofs.join_refusal.Statement.{statement}
 use Rattle.bank.proofs.join_refusal.Tie as tie
 
@@ -16,37 +10,25 @@ sizes-requires : tie.Need-sizes-requires
 sizes-requires c κs = search needs
 
 returns : tie.Need-returns
-returns c = ask-first (size-questions 1 (c .before .before .args .width) (c .before .before .args .height)) _ _ (c .before .sizes .ensures) (c .if1 .taken)
-
-known : (c : tie.Else1) → AllYes (size-questions 1 (c .before .before .args .width) (c .before .before .args .height))
-known c = all-yes (size-questions 1 (c .before .before .args .width) (c .before .before .args .height)) tt (c .before .sizes .result) (c .before .sizes .ensures) (c .if1 .left)
+returns c = ask-first _ _ _ (c .before .sizes .ensures) (c .if1 .taken)
 
 mul-count : tie.Need-mul-count
-mul-count c =
-    let a = c .before .before .args in
-    record { fits = omega (arith, sizes-is (a .width) (a .height) (known c) .area) }
-
--- 6, 7 and 15
-rest : (c : tie.Else1) (m : ℕ)
-    → let a = c .before .before .args in
-    let given = bands (now (a .band1)) (now (a .band2)) (now (a .band3)) (now (a .band4)) in
-    m ≡ ask (joining-questions (a .width * a .height) given (a .room)) → m ≡ ask (join-questions (a .width) (a .height) given (a .room))
-rest c m r = ask-later (size-questions 1 (c .before .before .args .width) (c .before .before .args .height)) _ m (known c) r
+mul-count c = record { fits = omega (arith, sizes-known _ _ _ _ _ (c .before .sizes .ensures) tt (c .if1 .left) .area) }
 
 returns-2 : tie.Need-returns-2
-returns-2 c = rest (c .before) _ (search asking depth 24)
+returns-2 c = let k = c .before in ask-then _ _ _ _ (k .before .sizes .ensures) tt (k .if1 .left) (search asking depth 24)
 
 returns-3 : tie.Need-returns-3
-returns-3 c = rest (c .before .before) _ (search asking depth 24)
+returns-3 c = let k = c .before .before in ask-then _ _ _ _ (k .before .sizes .ensures) tt (k .if1 .left) (search asking depth 24)
 
 returns-4 : tie.Need-returns-4
-returns-4 c = rest (c .before .before .before) _ (search asking depth 24)
+returns-4 c = let k = c .before .before .before in ask-then _ _ _ _ (k .before .sizes .ensures) tt (k .if1 .left) (search asking depth 24)
 
 returns-5 : tie.Need-returns-5
-returns-5 c = rest (c .before .before .before .before) _ (search asking depth 24)
+returns-5 c = let k = c .before .before .before .before in ask-then _ _ _ _ (k .before .sizes .ensures) tt (k .if1 .left) (search asking depth 24)
 
 returns-6 : tie.Need-returns-6
-returns-6 c = rest (c .before .before .before .before .before) _ (search asking depth 24)
+returns-6 c = let k = c .before .before .before .before .before in ask-then _ _ _ _ (k .before .sizes .ensures) tt (k .if1 .left) (search asking depth 24)
 
 bands-refusal-requires : tie.Need-bands-refusal-requires
 bands-refusal-requires c κs = search needs
@@ -54,7 +36,8 @@ bands-refusal-requires c κs = search needs
 returns-7 : tie.Need-returns-7
 returns-7 c =
     let last = c .bands-refusal .ensures in
-    rest (c .before .before .before .before .before .before) _ (search asking depth 24)
+    let k = c .before .before .before .before .before .before in
+    ask-then _ _ _ _ (k .before .sizes .ensures) tt (k .if1 .left) (search asking depth 24)
 
 pub join-refusal-spec : {M : Type 1} → statement M
 join-refusal-spec =

@@ -1,17 +1,11 @@
 -- `bank::split` meets its contract: one check, one branch, and then the bands.
 -- Assumes nothing.
-use mathlib.Core.Path.{refl}
-use mathlib.Core.List.{List}
 use native.Mathlib.Omega.{arith}
-use lib.IntN.{ℤ}
 use lib.ListN.{length}
 use denote.Ref.{now}
 use borrow.Author.Needs.{needs}
-use Rattle.questions.specs.Calls.{Call}
-use Rattle.questions.specs.declared.Answer.{Answer}
-use Rattle.questions.proofs.Answering.{refuses, accepts}
-use Rattle.filters.specs.Bank.{Bands}
-use Rattle.bank.specs.Calls.{bands, split-lists, split-call}
+use Rattle.questions.proofs.Answering.{refuses, plain-accepts}
+use Rattle.bank.specs.Calls.{bands, split-lists}
 use Rattle.bank.proofs.Calls.{Splittable, splittable}
 use Rattle.bank.proofs.split.Statement.{statement}
 use Rattle.bank.proofs.split.Tie as tie
@@ -19,12 +13,8 @@ use Rattle.bank.proofs.split.Tie as tie
 split-refusal-requires : tie.Need-split-refusal-requires
 split-refusal-requires c κs = search needs
 
--- the call, by where it starts
-abbrev call : tie.Start → Call Answer (Bands (List ℤ))
-call s = let a = s .args in split-call (a .width) (a .height) (now (a .plane)) (bands (now (a .band1)) (now (a .band2)) (now (a .band3)) (now (a .band4)))
-
 returns : tie.Need-returns
-returns c = refuses (call (c .before .before)) _ (c .before .split-refusal .ensures) (c .if1 .taken)
+returns c = refuses (c .before .split-refusal .ensures) (c .if1 .taken)
 
 slice-aggregate-split-rows : tie.Need-slice-aggregate-split-rows
 slice-aggregate-split-rows c = search needs
@@ -60,7 +50,7 @@ unfolding split-lists
 returns-2 c =
     let k = c .before .before .before .before .before .before .before .before .before .before .before .before .before in
     let e = c .before .before .before .before .before .before .split-rows .ensures in
-    accepts (call (k .before .before)) (k .before .split-refusal .result) (k .before .split-refusal .ensures) (k .if1 .left) refl refl (λ m. bands (e .0 m) (e .1 .0 m) (e .1 .1 .0 m) (e .1 .1 .1 m))
+    plain-accepts (k .before .split-refusal .ensures) (k .if1 .left) (λ m. bands (e .0 m) (e .1 .0 m) (e .1 .1 .0 m) (e .1 .1 .1 m))
 
 pub split-spec : {M : Type 1} → statement M
 split-spec =

@@ -15,7 +15,7 @@ same-length : tie.Need-same-length
 same-length c = search needs
 
 returns : tie.Need-returns
-returns c = to-number _ (c .before .before .join .ensures) (c .number .ensures)
+returns c = to-number (c .before .before .join .ensures) (c .number .ensures)
 
 pub demosaic-join-spec : {M : Type 1} → statement M
 demosaic-join-spec = tie.close (tie.spec join-requires number-requires same-length returns)

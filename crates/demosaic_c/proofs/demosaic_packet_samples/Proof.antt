@@ -21,14 +21,14 @@ same-length c = search needs
 
 returns : tie.Need-returns
 returns c =
-    to-number _ (c .before .before .before .before .before .read-mosaic .ensures) (ap number-of-read (sym (c .before .answer .given .1)))
+    to-number (c .before .before .before .before .before .read-mosaic .ensures) (ap number-of-read (sym (c .before .answer .given .1)))
 
 same-length-2 : tie.Need-same-length-2
 same-length-2 c = search needs
 
 returns-2 : tie.Need-returns-2
 returns-2 c =
-    to-number _ (c .before .before .before .before .read-mosaic .ensures) (ap number-of-read (sym (c .enum-told .given .1)))
+    to-number (c .before .before .before .before .read-mosaic .ensures) (ap number-of-read (sym (c .enum-told .given .1)))
 
 pub demosaic-packet-samples-spec : {M : Type 1} → statement M
 demosaic-packet-samples-spec =

@@ -24,7 +24,7 @@ same-length-4 : tie.Need-same-length-4
 same-length-4 c = search needs
 
 returns : tie.Need-returns
-returns c = to-number _ (c .before .before .before .before .before .split .ensures) (c .number .ensures)
+returns c = to-number (c .before .before .before .before .before .split .ensures) (c .number .ensures)
 
 pub demosaic-split-spec : {M : Type 1} → statement M
 demosaic-split-spec =

@@ -40,10 +40,10 @@ abbrev Row : tie.Start Inv-loop μ-loop → ℕ → ℕ
 Row s j = let a = s .args in bilinear (Bool·beq (on-red-row (a .layout) (a .r)) (a .is-red)) (Bool·beq (on-red-column (a .layout) (a .first + j)) (a .is-red)) (around (neighbourhood (a .width) (a .height) (plane-of 0 (a .width) (now (a .mosaic))) (a .r) (a .first + j)))
 
 mul-at : tie.Need-mul-at Inv-loop μ-loop
-mul-at c = record { fits = omega (arith, part-fits (c .before .before), c .before .before .pre .0 .0 .area) }
+mul-at c = record { fits = omega (arith, part-fits (c .before .before), c .before .before .pre .0 .0 .sizes .area) }
 
 add-at : tie.Need-add-at Inv-loop μ-loop
-add-at c = record { fits = omega (arith, part-fits (c .before .before), c .before .before .pre .0 .0 .area) }
+add-at c = record { fits = omega (arith, part-fits (c .before .before), c .before .before .pre .0 .0 .sizes .area) }
 
 has-red-row-requires : tie.Need-has-red-row-requires Inv-loop μ-loop
 has-red-row-requires c κs = search needs
@@ -55,7 +55,7 @@ loop-holds c =
     (omega arith, overwrite-none (now (a .plane)) (a .r * a .width + a .first) (Row s), refl)
 
 add-inside : tie.Need-add-inside Inv-loop μ-loop
-add-inside c = record { fits = omega (arith, c .loop-test .taken, Entry (c .before) .pre .1 .0, Entry (c .before) .pre .0 .0 .width-to) }
+add-inside c = record { fits = omega (arith, c .loop-test .taken, Entry (c .before) .pre .1 .0, Entry (c .before) .pre .0 .0 .sizes .width-to) }
 
 inside-requires : tie.Need-inside-requires Inv-loop μ-loop
 inside-requires c κs =
@@ -64,7 +64,7 @@ inside-requires c κs =
     (s .pre .0 .0, (s .pre .1 .0 .0, inner-from (a .width) (a .first + c .before .loop .k) (omega (arith, s .pre .1 .0 .1)) (omega (arith, c .loop-test .taken, s .pre .1 .0 .2))))
 
 add-has-red-column : tie.Need-add-has-red-column Inv-loop μ-loop
-add-has-red-column c = record { fits = omega (arith, c .before .loop-test .taken, Entry (c .before .before) .pre .1 .0, Entry (c .before .before) .pre .0 .0 .width-to) }
+add-has-red-column c = record { fits = omega (arith, c .before .loop-test .taken, Entry (c .before .before) .pre .1 .0, Entry (c .before .before) .pre .0 .0 .sizes .width-to) }
 
 has-red-column-requires : tie.Need-has-red-column-requires Inv-loop μ-loop
 has-red-column-requires c κs = search needs
@@ -73,10 +73,10 @@ bilinear-estimate-requires : tie.Need-bilinear-estimate-requires Inv-loop μ-loo
 bilinear-estimate-requires c κs = search needs
 
 add-plane : tie.Need-add-plane Inv-loop μ-loop
-add-plane c = record { fits = omega (arith, place-fits (c .before .before .before), Entry (c .before .before .before .before) .pre .0 .0 .area) }
+add-plane c = record { fits = omega (arith, place-fits (c .before .before .before), Entry (c .before .before .before .before) .pre .0 .0 .sizes .area) }
 
 mul-plane : tie.Need-mul-plane Inv-loop μ-loop
-mul-plane c = record { fits = omega (arith, place-fits (c .before .before .before), Entry (c .before .before .before .before) .pre .0 .0 .area) }
+mul-plane c = record { fits = omega (arith, place-fits (c .before .before .before), Entry (c .before .before .before .before) .pre .0 .0 .sizes .area) }
 
 slice-write-plane : tie.Need-slice-write-plane Inv-loop μ-loop
 slice-write-plane c = omega (arith, place-fits (c .before .before .before), c .before .before .before .before .loop .inv .2, Entry (c .before .before .before .before) .pre .1 .1)

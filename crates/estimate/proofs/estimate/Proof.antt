@@ -1,17 +1,13 @@
 -- `estimate::estimate` meets its contract: one check, one branch, and then the planes.
 -- Assumes nothing.
-use mathlib.Core.Path.{refl}
 use mathlib.Core.List.{List}
 use Prim.Native.Nat.{ℕ}
 use native.Mathlib.Omega.{arith}
 use denote.Ref.{now}
 use borrow.Author.Needs.{needs}
 use Rattle.planes.specs.Planes.{Frame, Planes, planes, lengths, frame}
-use Rattle.questions.specs.Settings.{ceiling}
-use Rattle.questions.specs.Calls.{Call}
-use Rattle.questions.specs.declared.Answer.{Answer}
-use Rattle.questions.proofs.Answering.{refuses, accepts}
-use Rattle.estimate.specs.Calls.{estimate-lists, estimate-call}
+use Rattle.questions.proofs.Answering.{refuses, plain-accepts}
+use Rattle.estimate.specs.Calls.{estimate-lists}
 use Rattle.estimate.proofs.Calls.{Estimable, estimable}
 use Rattle.estimate.proofs.estimate.Statement.{statement}
 use Rattle.estimate.proofs.estimate.Tie as tie
@@ -19,7 +15,7 @@ use Rattle.estimate.proofs.estimate.Tie as tie
 estimate-refusal-requires : tie.Need-estimate-refusal-requires
 estimate-refusal-requires c κs = search needs
 
--- where the call starts, the frame that it was given, what the planes held, and the call
+-- where the call starts, the frame that it was given, and what the planes held
 abbrev Entry : tie.After-estimate-refusal → tie.Start
 Entry q = q .before .before .before .before .before
 
@@ -29,11 +25,8 @@ Given s = let a = s .args in frame (a .width) (a .height) (a .layout) (now (a .m
 abbrev Before : tie.Start → Planes (List ℕ)
 Before s = let a = s .args in planes (now (a .red)) (now (a .green)) (now (a .blue))
 
-abbrev call : tie.Start → Call Answer (Planes (List ℕ))
-call s = estimate-call ceiling (Given s) (Before s)
-
 returns : tie.Need-returns
-returns c = refuses (call (Entry (c .before))) _ (c .before .estimate-refusal .ensures) (λ z. omega (arith, c .if1 .taken))
+returns c = refuses (c .before .estimate-refusal .ensures) (λ z. omega (arith, c .if1 .taken))
 
 known : (c : tie.Else1) → let s = Entry (c .before) in Estimable (Given s) (lengths (Before s))
 known c = let t = c .before .estimate-refusal in estimable _ (Given (Entry (c .before))) _ (t .result) (t .ensures) (omega (arith, c .if1 .left))
@@ -54,9 +47,8 @@ returns-2 : tie.Need-returns-2
 unfolding estimate-lists
 returns-2 c =
     let q = c .before .before .before .before .before .before .before .before .before .before .before in
-    let s = Entry q in
     let e = c .before .before .before .before .before .before .estimate-rows .ensures in
-    accepts (call s) (q .estimate-refusal .result) (q .estimate-refusal .ensures) (omega (arith, c .before .before .before .before .before .before .before .before .before .before .if1 .left)) refl refl (λ m. planes (e .0 m) (e .1 .0 m) (e .1 .1 m))
+    plain-accepts (q .estimate-refusal .ensures) (omega (arith, c .before .before .before .before .before .before .before .before .before .before .if1 .left)) (λ m. planes (e .0 m) (e .1 .0 m) (e .1 .1 m))
 
 pub estimate-spec : {M : Type 1} → statement M
 estimate-spec =

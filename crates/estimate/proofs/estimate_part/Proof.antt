@@ -38,10 +38,10 @@ abbrev Row : tie.Start Inv-loop μ-loop → (Planes ℕ → ℕ) → ℕ → ℕ
 Row s x j = let a = s .args in x (estimate (a .top) (a .width) (a .height) (a .layout) (plane-of 0 (a .width) (now (a .mosaic))) (a .r) (a .first + j))
 
 mul-at : tie.Need-mul-at Inv-loop μ-loop
-mul-at c = record { fits = omega (arith, part-fits (c .before .before .before .before), c .before .before .before .before .pre .0 .0 .area) }
+mul-at c = record { fits = omega (arith, part-fits (c .before .before .before .before), c .before .before .before .before .pre .0 .0 .sizes .area) }
 
 add-at : tie.Need-add-at Inv-loop μ-loop
-add-at c = record { fits = omega (arith, part-fits (c .before .before .before .before), c .before .before .before .before .pre .0 .0 .area) }
+add-at c = record { fits = omega (arith, part-fits (c .before .before .before .before), c .before .before .before .before .pre .0 .0 .sizes .area) }
 
 has-red-row-requires : tie.Need-has-red-row-requires Inv-loop μ-loop
 has-red-row-requires c κs = search needs
@@ -54,7 +54,7 @@ loop-holds c =
     (omega arith, overwrite-none (now (a .red)) at (Row s (λ q. q .red)), overwrite-none (now (a .green)) at (Row s (λ q. q .green)), overwrite-none (now (a .blue)) at (Row s (λ q. q .blue)), refl, refl, refl)
 
 add-neighbourhood : tie.Need-add-neighbourhood Inv-loop μ-loop
-add-neighbourhood c = record { fits = omega (arith, c .loop-test .taken, Entry (c .before) .pre .1 .0, Entry (c .before) .pre .0 .0 .width-to) }
+add-neighbourhood c = record { fits = omega (arith, c .loop-test .taken, Entry (c .before) .pre .1 .0, Entry (c .before) .pre .0 .0 .sizes .width-to) }
 
 neighbourhood-requires : tie.Need-neighbourhood-requires Inv-loop μ-loop
 neighbourhood-requires c κs =
@@ -62,7 +62,7 @@ neighbourhood-requires c κs =
     (s .pre .0 .0, (s .pre .0 .1, omega (arith, c .loop-test .taken, s .pre .1 .0)))
 
 add-has-red-column : tie.Need-add-has-red-column Inv-loop μ-loop
-add-has-red-column c = record { fits = omega (arith, c .before .loop-test .taken, Entry (c .before .before) .pre .1 .0, Entry (c .before .before) .pre .0 .0 .width-to) }
+add-has-red-column c = record { fits = omega (arith, c .before .loop-test .taken, Entry (c .before .before) .pre .1 .0, Entry (c .before .before) .pre .0 .0 .sizes .width-to) }
 
 has-red-column-requires : tie.Need-has-red-column-requires Inv-loop μ-loop
 has-red-column-requires c κs = search needs
@@ -71,10 +71,10 @@ bilinear-estimate-requires : tie.Need-bilinear-estimate-requires Inv-loop μ-loo
 bilinear-estimate-requires c κs = search needs
 
 add-red : tie.Need-add-red Inv-loop μ-loop
-add-red c = record { fits = omega (arith, place-fits (c .before .before .before), Entry (c .before .before .before .before) .pre .0 .0 .area) }
+add-red c = record { fits = omega (arith, place-fits (c .before .before .before), Entry (c .before .before .before .before) .pre .0 .0 .sizes .area) }
 
 mul-red : tie.Need-mul-red Inv-loop μ-loop
-mul-red c = record { fits = omega (arith, place-fits (c .before .before .before), Entry (c .before .before .before .before) .pre .0 .0 .area) }
+mul-red c = record { fits = omega (arith, place-fits (c .before .before .before), Entry (c .before .before .before .before) .pre .0 .0 .sizes .area) }
 
 slice-write-red : tie.Need-slice-write-red Inv-loop μ-loop
 slice-write-red c = omega (arith, place-fits (c .before .before .before), c .before .before .before .before .loop .inv .4, Entry (c .before .before .before .before) .pre .1 .1 .0)
@@ -83,10 +83,10 @@ green-at-requires : tie.Need-green-at-requires Inv-loop μ-loop
 green-at-requires c κs = search needs
 
 add-green : tie.Need-add-green Inv-loop μ-loop
-add-green c = record { fits = omega (arith, place-fits (c .before .before .before .before), Entry (c .before .before .before .before .before) .pre .0 .0 .area) }
+add-green c = record { fits = omega (arith, place-fits (c .before .before .before .before), Entry (c .before .before .before .before .before) .pre .0 .0 .sizes .area) }
 
 mul-green : tie.Need-mul-green Inv-loop μ-loop
-mul-green c = record { fits = omega (arith, place-fits (c .before .before .before .before), Entry (c .before .before .before .before .before) .pre .0 .0 .area) }
+mul-green c = record { fits = omega (arith, place-fits (c .before .before .before .before), Entry (c .before .before .before .before .before) .pre .0 .0 .sizes .area) }
 
 slice-write-green : tie.Need-slice-write-green Inv-loop μ-loop
 slice-write-green c = omega (arith, place-fits (c .before .before .before .before), c .before .before .before .before .before .loop .inv .5, Entry (c .before .before .before .before .before) .pre .1 .1 .1)
@@ -95,10 +95,10 @@ bilinear-estimate-requires-2 : tie.Need-bilinear-estimate-requires-2 Inv-loop μ
 bilinear-estimate-requires-2 c κs = search needs
 
 add-blue : tie.Need-add-blue Inv-loop μ-loop
-add-blue c = record { fits = omega (arith, place-fits (c .before .before .before .before .before), Entry (c .before .before .before .before .before .before) .pre .0 .0 .area) }
+add-blue c = record { fits = omega (arith, place-fits (c .before .before .before .before .before), Entry (c .before .before .before .before .before .before) .pre .0 .0 .sizes .area) }
 
 mul-blue : tie.Need-mul-blue Inv-loop μ-loop
-mul-blue c = record { fits = omega (arith, place-fits (c .before .before .before .before .before), Entry (c .before .before .before .before .before .before) .pre .0 .0 .area) }
+mul-blue c = record { fits = omega (arith, place-fits (c .before .before .before .before .before), Entry (c .before .before .before .before .before .before) .pre .0 .0 .sizes .area) }
 
 slice-write-blue : tie.Need-slice-write-blue Inv-loop μ-loop
 slice-write-blue c = omega (arith, place-fits (c .before .before .before .before .before), c .before .before .before .before .before .before .loop .inv .6, Entry (c .before .before .before .before .before .before) .pre .1 .1 .2)

@@ -4,8 +4,7 @@ use mathlib.Core.Bool.{true, false}
 use native.Mathlib.Omega.{arith}
 use borrow.Author.Needs.{needs}
 use Rattle.integers.proofs.Tests.{tested}
-use Rattle.questions.specs.Questions.{shape-questions}
-use Rattle.questions.proofs.Asking.{asking, ask-first, ask-later, AllYes, all-yes, shape-is}
+use Rattle.questions.proofs.Asking.{asking, ask-first, ask-then, sizes-known}
 use Rattle.estimate.proofs.estimate_refusal.Statement.{statement}
 use Rattle.estimate.proofs.estimate_refusal.Tie as tie
 
@@ -13,54 +12,37 @@ shape-requires : tie.Need-shape-requires
 shape-requires c κs = search needs
 
 returns : tie.Need-returns
-returns c =
-    let a = c .before .before .before .args in
-    ask-first (shape-questions (a .width) (a .height) (a .layout)) _ _ (c .before .shape .ensures) (c .if1 .taken)
-
-known : (c : tie.Else1) → let a = c .before .before .before .args in AllYes (shape-questions (a .width) (a .height) (a .layout))
-known c =
-    let a = c .before .before .before .args in
-    all-yes (shape-questions (a .width) (a .height) (a .layout)) tt (c .before .shape .result) (c .before .shape .ensures) (c .if1 .left)
+returns c = ask-first _ _ _ (c .before .shape .ensures) (c .if1 .taken)
 
 mul-count : tie.Need-mul-count
-mul-count c =
-    let a = c .before .before .before .args in
-    record { fits = omega (arith, shape-is (a .width) (a .height) (a .layout) (known c) .area) }
+mul-count c = record { fits = omega (arith, sizes-known _ _ _ _ _ (c .before .shape .ensures) tt (c .if1 .left) .area) }
 
 returns-2 : tie.Need-returns-2
-returns-2 c =
-    let a = c .before .before .before .before .args in
-    ask-later (shape-questions (a .width) (a .height) (a .layout)) _ _ (known (c .before)) (search asking depth 24)
+returns-2 c = let k = c .before in ask-then _ _ _ _ (k .before .shape .ensures) tt (k .if1 .left) (search asking depth 24)
 
 returns-3 : tie.Need-returns-3
-returns-3 c =
-    let a = c .before .before .before .before .before .args in
-    ask-later (shape-questions (a .width) (a .height) (a .layout)) _ _ (known (c .before .before)) (search asking depth 24)
+returns-3 c = let k = c .before .before in ask-then _ _ _ _ (k .before .shape .ensures) tt (k .if1 .left) (search asking depth 24)
 
 returns-4 : tie.Need-returns-4
-returns-4 c =
-    let a = c .before .before .before .before .before .before .args in
-    ask-later (shape-questions (a .width) (a .height) (a .layout)) _ _ (known (c .before .before .before)) (search asking depth 24)
+returns-4 c = let k = c .before .before .before in ask-then _ _ _ _ (k .before .shape .ensures) tt (k .if1 .left) (search asking depth 24)
 
 returns-5 : tie.Need-returns-5
-returns-5 c =
-    let a = c .before .before .before .before .before .before .before .args in
-    ask-later (shape-questions (a .width) (a .height) (a .layout)) _ _ (known (c .before .before .before .before)) (search asking depth 24)
+returns-5 c = let k = c .before .before .before .before in ask-then _ _ _ _ (k .before .shape .ensures) tt (k .if1 .left) (search asking depth 24)
 
 samples-within-requires : tie.Need-samples-within-requires
 samples-within-requires c κs = search needs
 
 returns-6 : tie.Need-returns-6
 returns-6 c =
-    let a = c .before .before .before .before .before .before .before .before .before .args in
     let above = tested true (c .before .samples-within .ensures) (c .if6 .taken) in
-    ask-later (shape-questions (a .width) (a .height) (a .layout)) _ _ (known (c .before .before .before .before .before .before)) (search asking depth 24)
+    let k = c .before .before .before .before .before .before in
+    ask-then _ _ _ _ (k .before .shape .ensures) tt (k .if1 .left) (search asking depth 24)
 
 returns-7 : tie.Need-returns-7
 returns-7 c =
-    let a = c .before .before .before .before .before .before .before .before .before .args in
     let within = tested false (c .before .samples-within .ensures) (c .if6 .left) in
-    ask-later (shape-questions (a .width) (a .height) (a .layout)) _ _ (known (c .before .before .before .before .before .before)) (search asking depth 24)
+    let k = c .before .before .before .before .before .before in
+    ask-then _ _ _ _ (k .before .shape .ensures) tt (k .if1 .left) (search asking depth 24)
 
 pub estimate-refusal-spec : {M : Type 1} → statement M
 estimate-refusal-spec =

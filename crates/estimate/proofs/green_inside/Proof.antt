@@ -39,10 +39,10 @@ abbrev Row : tie.Start Inv-loop μ-loop → (Planes ℕ → ℕ) → ℕ → ℕ
 Row s x j = let a = s .args in x (estimate (a .top) (a .width) (a .height) (a .layout) (plane-of 0 (a .width) (now (a .mosaic))) (a .r) (a .first + j))
 
 mul-at : tie.Need-mul-at Inv-loop μ-loop
-mul-at c = record { fits = omega (arith, part-fits (c .before .before), c .before .before .pre .0 .0 .area) }
+mul-at c = record { fits = omega (arith, part-fits (c .before .before), c .before .before .pre .0 .0 .sizes .area) }
 
 add-at : tie.Need-add-at Inv-loop μ-loop
-add-at c = record { fits = omega (arith, part-fits (c .before .before), c .before .before .pre .0 .0 .area) }
+add-at c = record { fits = omega (arith, part-fits (c .before .before), c .before .before .pre .0 .0 .sizes .area) }
 
 has-red-row-requires : tie.Need-has-red-row-requires Inv-loop μ-loop
 has-red-row-requires c κs = search needs
@@ -54,7 +54,7 @@ loop-holds c =
     (omega arith, overwrite-none (now (a .green)) (a .r * a .width + a .first) (Row s (λ q. q .green)), refl)
 
 add-inside : tie.Need-add-inside Inv-loop μ-loop
-add-inside c = record { fits = omega (arith, c .loop-test .taken, Entry (c .before) .pre .1 .0, Entry (c .before) .pre .0 .0 .width-to) }
+add-inside c = record { fits = omega (arith, c .loop-test .taken, Entry (c .before) .pre .1 .0, Entry (c .before) .pre .0 .0 .sizes .width-to) }
 
 inside-requires : tie.Need-inside-requires Inv-loop μ-loop
 inside-requires c κs =
@@ -63,7 +63,7 @@ inside-requires c κs =
     (s .pre .0 .0, (s .pre .1 .0 .0, inner-from (a .width) (a .first + c .before .loop .k) (omega (arith, s .pre .1 .0 .1)) (omega (arith, c .loop-test .taken, s .pre .1 .0 .2))))
 
 add-has-red-column : tie.Need-add-has-red-column Inv-loop μ-loop
-add-has-red-column c = record { fits = omega (arith, c .before .loop-test .taken, Entry (c .before .before) .pre .1 .0, Entry (c .before .before) .pre .0 .0 .width-to) }
+add-has-red-column c = record { fits = omega (arith, c .before .loop-test .taken, Entry (c .before .before) .pre .1 .0, Entry (c .before .before) .pre .0 .0 .sizes .width-to) }
 
 has-red-column-requires : tie.Need-has-red-column-requires Inv-loop μ-loop
 has-red-column-requires c κs = search needs
@@ -72,10 +72,10 @@ green-at-requires : tie.Need-green-at-requires Inv-loop μ-loop
 green-at-requires c κs = search needs
 
 add-green : tie.Need-add-green Inv-loop μ-loop
-add-green c = record { fits = omega (arith, place-fits (c .before .before .before), Entry (c .before .before .before .before) .pre .0 .0 .area) }
+add-green c = record { fits = omega (arith, place-fits (c .before .before .before), Entry (c .before .before .before .before) .pre .0 .0 .sizes .area) }
 
 mul-green : tie.Need-mul-green Inv-loop μ-loop
-mul-green c = record { fits = omega (arith, place-fits (c .before .before .before), Entry (c .before .before .before .before) .pre .0 .0 .area) }
+mul-green c = record { fits = omega (arith, place-fits (c .before .before .before), Entry (c .before .before .before .before) .pre .0 .0 .sizes .area) }
 
 slice-write-green : tie.Need-slice-write-green Inv-loop μ-loop
 slice-write-green c = omega (arith, place-fits (c .before .before .before), c .before .before .before .before .loop .inv .2, Entry (c .before .before .before .before) .pre .1 .1)

@@ -20,19 +20,19 @@ sub-from : tie.Need-sub-from
 sub-from c = omega (arith, far (c .before) .0, far (c .before) .1)
 
 mul-from : tie.Need-mul-from
-mul-from c = let r = room (c .before) in record { fits = omega (arith, c .before .pre .0 .area) }
+mul-from c = let r = room (c .before) in record { fits = omega (arith, c .before .pre .0 .sizes .area) }
 
 sub-from-2 : tie.Need-sub-from-2
 sub-from-2 c = omega (arith, far (c .before) .0, far (c .before) .1)
 
 add-from : tie.Need-add-from
-add-from c = let r = room (c .before) in record { fits = omega (arith, c .before .pre .0 .area) }
+add-from c = let r = room (c .before) in record { fits = omega (arith, c .before .pre .0 .sizes .area) }
 
 row-inside-requires : tie.Need-row-inside-requires
 row-inside-requires c κs = omega (arith, room (c .before), c .before .pre .0 .count)
 
 add-row-inside : tie.Need-add-row-inside
-add-row-inside c = let r = room (c .before .before) in record { fits = omega (arith, c .before .before .pre .0 .area) }
+add-row-inside c = let r = room (c .before .before) in record { fits = omega (arith, c .before .before .pre .0 .sizes .area) }
 
 row-inside-requires-2 : tie.Need-row-inside-requires-2
 row-inside-requires-2 c κs = omega (arith, room (c .before .before), c .before .before .pre .0 .count)
@@ -41,7 +41,7 @@ mul-row-inside : tie.Need-mul-row-inside
 mul-row-inside c = search needs
 
 add-row-inside-2 : tie.Need-add-row-inside-2
-add-row-inside-2 c = let r = room (c .before .before .before) in record { fits = omega (arith, c .before .before .before .pre .0 .area) }
+add-row-inside-2 c = let r = room (c .before .before .before) in record { fits = omega (arith, c .before .before .before .pre .0 .sizes .area) }
 
 row-inside-requires-3 : tie.Need-row-inside-requires-3
 row-inside-requires-3 c κs = omega (arith, room (c .before .before .before), c .before .before .before .pre .0 .count)
@@ -50,7 +50,7 @@ mul-row-inside-2 : tie.Need-mul-row-inside-2
 mul-row-inside-2 c = search needs
 
 add-row-inside-3 : tie.Need-add-row-inside-3
-add-row-inside-3 c = let r = room (c .before .before .before .before) in record { fits = omega (arith, c .before .before .before .before .pre .0 .area) }
+add-row-inside-3 c = let r = room (c .before .before .before .before) in record { fits = omega (arith, c .before .before .before .before .pre .0 .sizes .area) }
 
 row-inside-requires-4 : tie.Need-row-inside-requires-4
 row-inside-requires-4 c κs = omega (arith, room (c .before .before .before .before), c .before .before .before .before .pre .0 .count)
@@ -59,7 +59,7 @@ mul-row-inside-3 : tie.Need-mul-row-inside-3
 mul-row-inside-3 c = search needs
 
 add-row-inside-4 : tie.Need-add-row-inside-4
-add-row-inside-4 c = let r = room (c .before .before .before .before .before) in record { fits = omega (arith, c .before .before .before .before .before .pre .0 .area) }
+add-row-inside-4 c = let r = room (c .before .before .before .before .before) in record { fits = omega (arith, c .before .before .before .before .before .pre .0 .sizes .area) }
 
 row-inside-requires-5 : tie.Need-row-inside-requires-5
 row-inside-requires-5 c κs = omega (arith, room (c .before .before .before .before .before), c .before .before .before .before .before .pre .0 .count)

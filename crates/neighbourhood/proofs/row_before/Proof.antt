@@ -23,13 +23,13 @@ room : (c : tie.After-reflected-before) → let a = c .before .before .args in c
 room c = let a = c .before .before .args in row-room (a .width) (a .height) (c .reflected-before .result) (omega (arith, c .reflected-before .ensures .1))
 
 mul-at : tie.Need-mul-at
-mul-at c = let r = room c in record { fits = omega (arith, c .before .before .pre .0 .area) }
+mul-at c = let r = room c in record { fits = omega (arith, c .before .before .pre .0 .sizes .area) }
 
 sample-before-requires : tie.Need-sample-before-requires
 sample-before-requires c κs =
     let s = c .before .before in
     let z = s .pre .0 in
-    (z .width-from, z .width-to, omega (arith, room (c), z .count))
+    (z .sizes .width-from, z .sizes .width-to, omega (arith, room (c), z .count))
 
 add-sample-before : tie.Need-add-sample-before
 add-sample-before c = search needs
@@ -38,7 +38,7 @@ sample-before-requires-2 : tie.Need-sample-before-requires-2
 sample-before-requires-2 c κs =
     let s = c .before .before .before in
     let z = s .pre .0 in
-    (z .width-from, z .width-to, omega (arith, room (c .before), z .count))
+    (z .sizes .width-from, z .sizes .width-to, omega (arith, room (c .before), z .count))
 
 add-sample-before-2 : tie.Need-add-sample-before-2
 add-sample-before-2 c = search needs
@@ -47,7 +47,7 @@ sample-before-requires-3 : tie.Need-sample-before-requires-3
 sample-before-requires-3 c κs =
     let s = c .before .before .before .before in
     let z = s .pre .0 in
-    (z .width-from, z .width-to, omega (arith, room (c .before .before), z .count))
+    (z .sizes .width-from, z .sizes .width-to, omega (arith, room (c .before .before), z .count))
 
 add-sample-before-3 : tie.Need-add-sample-before-3
 add-sample-before-3 c = search needs
@@ -56,7 +56,7 @@ sample-before-requires-4 : tie.Need-sample-before-requires-4
 sample-before-requires-4 c κs =
     let s = c .before .before .before .before .before in
     let z = s .pre .0 in
-    (z .width-from, z .width-to, omega (arith, room (c .before .before .before), z .count))
+    (z .sizes .width-from, z .sizes .width-to, omega (arith, room (c .before .before .before), z .count))
 
 add-sample-before-4 : tie.Need-add-sample-before-4
 add-sample-before-4 c = search needs
@@ -65,7 +65,7 @@ sample-before-requires-5 : tie.Need-sample-before-requires-5
 sample-before-requires-5 c κs =
     let s = c .before .before .before .before .before .before in
     let z = s .pre .0 in
-    (z .width-from, z .width-to, omega (arith, room (c .before .before .before .before), z .count))
+    (z .sizes .width-from, z .sizes .width-to, omega (arith, room (c .before .before .before .before), z .count))
 
 returns : tie.Need-returns
 unfolding plane-of

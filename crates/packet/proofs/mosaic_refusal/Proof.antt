@@ -32,7 +32,7 @@ trailer-fields-requires c κs = known c .long
 mul-count : tie.Need-mul-count
 mul-count c =
     let k = subst (λ (g : Fields). Allowed g) (sym (c .before .trailer-fields .ensures)) (known (c .before .before) .fields) in
-    record { fits = omega (arith, k .shape .area) }
+    record { fits = omega (arith, k .shape .sizes .area) }
 
 returns-2 : tie.Need-returns-2
 returns-2 c =

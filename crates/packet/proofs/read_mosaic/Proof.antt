@@ -1,15 +1,11 @@
 -- `packet::read_mosaic` meets its contract.
 -- Assumes nothing.
 use mathlib.Core.Path.{refl, ap, sym, _∙_}
-use mathlib.Core.List.{List}
 use Prim.Native.Nat.{ℕ, _*_}
 use lib.ListN.{length}
 use denote.Ref.{now}
-use Rattle.questions.specs.Calls.{Call}
 use Rattle.questions.proofs.Answering.{refuses, accepts}
 use Rattle.little_endian.specs.Bytes.{samples-in}
-use Rattle.packet.specs.Calls.{mosaic-call}
-use Rattle.packet.specs.declared.ReadPacket.{ReadPacket}
 use Rattle.packet.specs.declared.ReadPacket.the-variants.{Sound}
 use Rattle.packet.proofs.Stores.{FillingPacket, filling, length-part}
 use borrow.Author.Needs.{needs}
@@ -19,12 +15,8 @@ use Rattle.packet.proofs.read_mosaic.Tie as tie
 mosaic-refusal-requires : tie.Need-mosaic-refusal-requires
 mosaic-refusal-requires c κs = search needs
 
--- the call, by where it starts
-abbrev call : tie.Start → Call ReadPacket (List ℕ)
-call s = let a = s .args in mosaic-call (now (a .store)) (now (a .mosaic))
-
 returns : tie.Need-returns
-returns c = refuses (call (c .before .before .before .before)) _ (c .before .mosaic-refusal .ensures) (c .if1 .taken)
+returns c = refuses (c .before .mosaic-refusal .ensures) (c .if1 .taken)
 
 known : (c : tie.Else1) → let a = c .before .before .before .before .args in FillingPacket (now (a .store)) (length (now (a .mosaic)))
 known c =
@@ -49,7 +41,7 @@ same-length c = search needs
 returns-2 : tie.Need-returns-2
 returns-2 c =
     let e = c .before .before .before .before .before .before in
-    accepts (call (e .before .before .before .before)) _ (e .before .mosaic-refusal .ensures) (e .if1 .left) refl (ap Sound (c .trailer-fields .ensures))
+    accepts (e .before .mosaic-refusal .ensures) (e .if1 .left) refl (ap Sound (c .trailer-fields .ensures))
     (c .before .before .before .read-samples .ensures ∙ ap samples-in (c .before .before .before .before .before .sample-part .ensures))
 
 pub read-mosaic-spec : {M : Type 1} → statement M

@@ -1,8 +1,6 @@
 -- `packet::repeat_refusal` meets its contract.
 -- Assumes nothing.
-use denote.Ref.{now}
-use Rattle.questions.proofs.Asking.{ask-first, ask-later, all-yes}
-use Rattle.packet.specs.Calls.{read-questions}
+use Rattle.questions.proofs.Asking.{ask-first, ask-then}
 use borrow.Author.Needs.{needs}
 use Rattle.packet.proofs.repeat_refusal.Statement.{statement}
 use Rattle.packet.proofs.repeat_refusal.Tie as tie
@@ -11,17 +9,13 @@ packet-refusal-requires : tie.Need-packet-refusal-requires
 packet-refusal-requires c κs = search needs
 
 returns : tie.Need-returns
-returns c =
-    ask-first (read-questions (now (c .before .before .before .before .args .a))) _ _ (c .before .packet-refusal .ensures) (c .if1 .taken)
+returns c = ask-first _ _ _ (c .before .packet-refusal .ensures) (c .if1 .taken)
 
 packet-refusal-requires-2 : tie.Need-packet-refusal-requires-2
 packet-refusal-requires-2 c κs = search needs
 
 returns-2 : tie.Need-returns-2
-returns-2 c =
-    let e = c .before in
-    let first = read-questions (now (e .before .before .before .before .args .a)) in
-    ask-later first _ _ (all-yes first tt _ (e .before .packet-refusal .ensures) (e .if1 .left)) (c .packet-refusal2 .ensures)
+returns-2 c = let k = c .before in ask-then _ _ _ _ (k .before .packet-refusal .ensures) tt (k .if1 .left) (c .packet-refusal2 .ensures)
 
 pub repeat-refusal-spec : {M : Type 1} → statement M
 repeat-refusal-spec =

@@ -33,13 +33,13 @@ known c =
     allowed f (all-yes (fields-questions f) tt _ (c .before .frame .ensures) (c .if2 .left))
 
 mul-length : tie.Need-mul-length
-mul-length c = let k = known (c .before) in record { fits = omega (arith, k .shape .area) }
+mul-length c = let k = known (c .before) in record { fits = omega (arith, k .shape .sizes .area) }
 
 mul-length-2 : tie.Need-mul-length-2
-mul-length-2 c = let k = known (c .before) in record { fits = omega (arith, k .shape .area) }
+mul-length-2 c = let k = known (c .before) in record { fits = omega (arith, k .shape .sizes .area) }
 
 add-length : tie.Need-add-length
-add-length c = let k = known (c .before) in record { fits = omega (arith, k .shape .area) }
+add-length c = let k = known (c .before) in record { fits = omega (arith, k .shape .sizes .area) }
 
 distance-back-requires : tie.Need-distance-back-requires
 distance-back-requires c κs = search needs

@@ -1,15 +1,10 @@
 -- `packet::write_packet` meets its contract.
 -- Assumes nothing.
 use mathlib.Core.Path.{refl}
-use mathlib.Core.List.{List}
-use Prim.Native.Nat.{ℕ}
 use native.Mathlib.Omega.{arith}
 use lib.ListN.{length}
 use denote.Ref.{now}
-use Rattle.questions.specs.Calls.{Call}
 use Rattle.questions.proofs.Answering.{refuses, accepts}
-use Rattle.packet.specs.Calls.{write-call}
-use Rattle.packet.specs.declared.WrittenPacket.{WrittenPacket}
 use Rattle.packet.proofs.Writing.{Writable, writable, packet-laid, bytes-written}
 use borrow.Author.Needs.{needs}
 use Rattle.packet.proofs.write_packet.Statement.{statement}
@@ -18,12 +13,8 @@ use Rattle.packet.proofs.write_packet.Tie as tie
 write-refusal-requires : tie.Need-write-refusal-requires
 write-refusal-requires c κs = search needs
 
--- the call, by where it starts
-abbrev call : tie.Start → Call WrittenPacket (List ℕ)
-call s = let a = s .args in write-call (a .f) (now (a .samples)) (now (a .out))
-
 returns : tie.Need-returns
-returns c = refuses (call (c .before .before .before .before)) _ (c .before .write-refusal .ensures) (c .if1 .taken)
+returns c = refuses (c .before .write-refusal .ensures) (c .if1 .taken)
 
 known : (c : tie.Else1) → let a = c .before .before .before .before .args in Writable (a .f) (now (a .samples)) (length (now (a .out)))
 known c =
@@ -53,9 +44,8 @@ returns-2 c =
     let p = c .before .before in
     let w = p .before .before .before .before in
     let e = w .before .before in
-    let s = e .before .before .before .before in
-    let a = s .args in
-    accepts (call s) _ (e .before .write-refusal .ensures) (e .if1 .left) refl (bytes-written (a .f) (now (a .samples)) _ (known e) refl)
+    let a = e .before .before .before .before .args in
+    accepts (e .before .write-refusal .ensures) (e .if1 .left) refl (bytes-written (a .f) (now (a .samples)) _ (known e) refl)
     (packet-laid (a .f) (now (a .samples)) (now (a .out)) _ (known e) refl (w .write-samples .ensures) (p .put-trailer .ensures))
 
 pub write-packet-spec : {M : Type 1} → statement M

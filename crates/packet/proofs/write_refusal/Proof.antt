@@ -7,10 +7,10 @@ use native.Mathlib.Omega.{arith}
 use denote.Ref.{now}
 use Rattle.integers.proofs.Tests.{tested}
 use Rattle.questions.specs.Settings.{ceiling-of}
-use Rattle.questions.specs.Questions.{ask, all-at-most}
-use Rattle.questions.proofs.Asking.{asking, ask-first, ask-later, all-yes}
-use Rattle.packet.specs.Calls.{fields-questions, writing-questions, write-questions}
-use Rattle.packet.proofs.Stores.{Allowed, allowed}
+use Rattle.questions.specs.Questions.{all-at-most}
+use Rattle.questions.proofs.Asking.{asking, ask-first, ask-then, all-yes}
+use Rattle.packet.specs.Calls.{fields-questions}
+use Rattle.packet.proofs.Stores.{allowed}
 use borrow.Author.Needs.{needs}
 use Rattle.packet.proofs.write_refusal.Statement.{statement}
 use Rattle.packet.proofs.write_refusal.Tie as tie
@@ -19,24 +19,16 @@ frame-requires : tie.Need-frame-requires
 frame-requires c κs = search needs
 
 returns : tie.Need-returns
-returns c = ask-first (fields-questions (c .before .before .before .args .f)) _ _ (c .before .frame .ensures) (c .if1 .taken)
-
-known : (c : tie.Else1) → Allowed (c .before .before .before .args .f)
-known c =
-    let f = c .before .before .before .args .f in
-    allowed f (all-yes (fields-questions f) tt _ (c .before .frame .ensures) (c .if1 .left))
-
--- 6, 9 and 14
-rest : (c : tie.Else1) (m : ℕ)
-    → let a = c .before .before .before .args in
-    m ≡ ask (writing-questions (a .f) (now (a .samples)) (a .room)) → m ≡ ask (write-questions (a .f) (now (a .samples)) (a .room))
-rest c m r = ask-later (fields-questions (c .before .before .before .args .f)) _ m (known c .answers) r
+returns c = ask-first _ _ _ (c .before .frame .ensures) (c .if1 .taken)
 
 mul-count : tie.Need-mul-count
-mul-count c = let k = known (c .before) in record { fits = omega (arith, k .shape .area) }
+mul-count c =
+    let k = c .before in
+    let f = k .before .before .before .args .f in
+    record { fits = omega (arith, allowed f (all-yes (fields-questions f) tt _ (k .before .frame .ensures) (k .if1 .left)) .shape .sizes .area) }
 
 returns-2 : tie.Need-returns-2
-returns-2 c = rest (c .before .before) _ (search asking)
+returns-2 c = let k = c .before .before in ask-then _ _ _ _ (k .before .frame .ensures) tt (k .if1 .left) (search asking)
 
 mul-length : tie.Need-mul-length
 mul-length c = search needs
@@ -60,17 +52,20 @@ scanned c =
 returns-3 : tie.Need-returns-3
 returns-3 c =
     let above = tested true (scanned (c .before)) (c .if3 .taken) in
-    rest (c .before .before .before .before .before) _ (search asking)
+    let k = c .before .before .before .before .before in
+    ask-then _ _ _ _ (k .before .frame .ensures) tt (k .if1 .left) (search asking)
 
 returns-4 : tie.Need-returns-4
 returns-4 c =
     let within = tested false (scanned (c .before .before)) (c .before .if3 .left) in
-    rest (c .before .before .before .before .before .before) _ (search asking)
+    let k = c .before .before .before .before .before .before in
+    ask-then _ _ _ _ (k .before .frame .ensures) tt (k .if1 .left) (search asking)
 
 returns-5 : tie.Need-returns-5
 returns-5 c =
     let within = tested false (scanned (c .before .before)) (c .before .if3 .left) in
-    rest (c .before .before .before .before .before .before) _ (search asking)
+    let k = c .before .before .before .before .before .before in
+    ask-then _ _ _ _ (k .before .frame .ensures) tt (k .if1 .left) (search asking)
 
 pub write-refusal-spec : {M : Type 1} → statement M
 write-refusal-spec =

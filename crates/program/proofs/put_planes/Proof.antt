@@ -22,7 +22,7 @@ put-frame-requires c κs =
     let k = finishable (now (s .args .input)) (s .pre .0) (s .args .f) (s .pre .1 .0) in
     let kept = finished .finish-frame .kept .1 .1 .1 .1 .1 in
     let room = s .pre .1 .1 in
-    (omega (arith, k .fields .shape .width-from), omega (arith, room .text-room, room .red-room, room .green-room, room .blue-room, kept .0, kept .1 .0, kept .1 .1 .0))
+    (omega (arith, k .fields .shape .sizes .width-from), omega (arith, room .text-room, room .red-room, room .green-room, room .blue-room, kept .0, kept .1 .0, kept .1 .1 .0))
 
 same-length : tie.Need-same-length
 same-length c = search needs

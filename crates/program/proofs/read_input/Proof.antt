@@ -29,7 +29,7 @@ mul-if2 c =
     let f = c .before .before in
     let r = f .before .before in
     let k = input-allowed (now (r .before .before .before .args .input)) (omega arith) (r .read-packet .ensures) _ (f .read .given .1) in
-    record { fits = omega (arith, k .shape .area) }
+    record { fits = omega (arith, k .shape .sizes .area) }
 
 returns-3 : tie.Need-returns-3
 returns-3 c =

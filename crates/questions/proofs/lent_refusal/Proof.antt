@@ -5,9 +5,10 @@ use Prim.Native.Nat.{ℕ, _*_}
 use native.Mathlib.Omega.{arith}
 use denote.Ref.{now}
 use borrow.Author.Needs.{needs}
-use Rattle.questions.specs.Questions.{ask, shape-questions, settings-questions, frame-questions}
+use Rattle.planes.specs.Planes.{Sizes}
+use Rattle.questions.specs.Questions.{ask}
 use Rattle.questions.specs.Lent.{rooms, buffer-questions}
-use Rattle.questions.proofs.Asking.{ask-first, ask-later, AllYes, all-yes, all-yes-split, Shape, shape-is}
+use Rattle.questions.proofs.Asking.{ask-first, ask-then, sizes-known}
 use Rattle.questions.proofs.lent_refusal.Statement.{statement}
 use Rattle.questions.proofs.lent_refusal.Tie as tie
 
@@ -15,35 +16,26 @@ frame-requires : tie.Need-frame-requires
 frame-requires c κs = search needs
 
 returns : tie.Need-returns
-returns c =
-    let a = c .before .before .before .args in
-    ask-first (frame-questions (a .width) (a .height) (a .layout) (a .settings)) _ _ (c .before .frame .ensures) (c .if1 .taken)
+returns c = ask-first _ _ _ (c .before .frame .ensures) (c .if1 .taken)
 
--- where they are answered yes
-known : (c : tie.Else1)
-    → let a = c .before .before .before .args in AllYes (frame-questions (a .width) (a .height) (a .layout) (a .settings))
-known c =
-    let a = c .before .before .before .args in
-    all-yes (frame-questions (a .width) (a .height) (a .layout) (a .settings)) tt _ (c .before .frame .ensures) (c .if1 .left)
-
-shape : (c : tie.Else1) → let a = c .before .before .before .args in Shape (a .width) (a .height) (a .layout)
-shape c =
-    let a = c .before .before .before .args in
-    shape-is (a .width) (a .height) (a .layout) (all-yes-split (shape-questions (a .width) (a .height) (a .layout)) (settings-questions (a .settings)) (known c) .0)
+-- where 1 to 5 are answered yes
+sizes : (c : tie.Else1) → let a = c .before .before .before .args in Sizes 2 (a .width) (a .height)
+sizes c = sizes-known _ _ _ _ _ (c .before .frame .ensures) tt (c .if1 .left)
 
 ceiling-requires : tie.Need-ceiling-requires
 ceiling-requires c κs = search needs
 
 mul-buffers-refusal : tie.Need-mul-buffers-refusal
-mul-buffers-refusal c = record { fits = omega (arith, shape (c .before) .area) }
+mul-buffers-refusal c = record { fits = omega (arith, sizes (c .before) .area) }
 
 buffers-refusal-requires : tie.Need-buffers-refusal-requires
-buffers-refusal-requires c κs = shape (c .before) .area
+buffers-refusal-requires c κs = sizes (c .before) .area
 
 returns-2 : tie.Need-returns-2
 returns-2 c =
-    let a = c .before .before .before .before .before .args in
-    ask-later (frame-questions (a .width) (a .height) (a .layout) (a .settings)) _ _ (known (c .before .before))
+    let k = c .before .before in
+    let a = k .before .before .before .args in
+    ask-then _ _ _ _ (k .before .frame .ensures) tt (k .if1 .left)
     (c .buffers-refusal .ensures ∙ ap (λ (top : ℕ). ask (buffer-questions top (a .width * a .height) (now (a .mosaic)) (rooms (a .red-room) (a .green-room) (a .blue-room) (a .room)))) (c .before .ceiling .ensures))
 
 pub lent-refusal-spec : {M : Type 1} → statement M

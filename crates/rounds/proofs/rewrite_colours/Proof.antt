@@ -6,7 +6,6 @@ use borrow.Author.Needs.{needs}
 use Rattle.planes.specs.Planes.{frame}
 use Rattle.planes.specs.Layout.{red-row, red-column}
 use Rattle.questions.specs.Lent.{lent}
-use Rattle.questions.proofs.Asking.{area-bound}
 use Rattle.work_buffer.specs.Buffer.{zeroed}
 use Rattle.rounds.proofs.Calls.{all-rewritten}
 use Rattle.rounds.proofs.rewrite_colours.Statement.{statement}
@@ -40,7 +39,7 @@ mul-zero : tie.Need-mul-zero
 mul-zero c = search needs
 
 mul-zero-2 : tie.Need-mul-zero-2
-mul-zero-2 c = let u = c .before .before .before .before .before .before .before .before .before .before .before .before .before .before .before .before .before .before .before .pre .0 in record { fits = omega (arith, area-bound (u .width-to) (u .height-to)) }
+mul-zero-2 c = let u = c .before .before .before .before .before .before .before .before .before .before .before .before .before .before .before .before .before .before .before .pre .0 in record { fits = omega (arith, u .sizes .area) }
 
 zero-requires : tie.Need-zero-requires
 zero-requires c κs = search needs

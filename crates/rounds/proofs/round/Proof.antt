@@ -54,10 +54,10 @@ near : (s : tie.Start) → s .args .colour .row * s .args .colour .width ≤ 2 *
 near s = mul-le-mul-right (s .args .colour .width) (let h = s .pre .1 in omega arith)
 
 mul-first : tie.Need-mul-first
-mul-first c = let s = start (projecting c) in record { fits = omega (arith, near s, s .pre .0 .width-to) }
+mul-first c = let s = start (projecting c) in record { fits = omega (arith, near s, s .pre .0 .sizes .width-to) }
 
 add-first : tie.Need-add-first
-add-first c = let s = start (projecting (c .before)) in record { fits = omega (arith, near s, s .pre .0 .width-to, s .pre .2) }
+add-first c = let s = start (projecting (c .before)) in record { fits = omega (arith, near s, s .pre .0 .sizes .width-to, s .pre .2) }
 
 add-columns : tie.Need-add-columns
 add-columns c = search needs
@@ -80,7 +80,7 @@ observe-requires c κs =
     let s = start (projecting (c .before .before .before .before)) in
     let a = s .args in
     let u = s .pre .0 in
-    (small-rows (a .colour .width) (a .colour .height) (a .colour .row) (a .colour .column) (s .pre .1) (s .pre .2) (now (a .mosaic)) (u .samples) (u .width-from) _ _ (omega arith) (omega arith), omega (arith, u .samples, u .work, c .before .before .before .before .before .before .project .kept))
+    (small-rows (a .colour .width) (a .colour .height) (a .colour .row) (a .colour .column) (s .pre .1) (s .pre .2) (now (a .mosaic)) (u .samples) (u .sizes .width-from) _ _ (omega arith) (omega arith), omega (arith, u .samples, u .work, c .before .before .before .before .before .before .project .kept))
 
 same-length : tie.Need-same-length
 same-length c = search needs

@@ -1,20 +1,16 @@
 -- `rounds::rounds` meets its contract: one check, one branch, and then the rounds.
 -- Assumes nothing.
-use mathlib.Core.Path.{refl}
 use native.Mathlib.Omega.{arith}
 use denote.Ref.{now}
 use borrow.Author.Needs.{needs}
 use Rattle.planes.specs.Planes.{Frame, frame}
 use Rattle.questions.specs.Lent.{Lent, lent}
-use Rattle.questions.specs.Calls.{Call}
-use Rattle.questions.specs.declared.Answer.{Answer}
-use Rattle.questions.proofs.Answering.{refuses, accepts}
-use Rattle.rounds.specs.Calls.{rounds-call}
+use Rattle.questions.proofs.Answering.{refuses, plain-accepts}
 use Rattle.rounds.proofs.Calls.{rounds-workable, red-long, blue-long}
 use Rattle.rounds.proofs.rounds.Statement.{statement}
 use Rattle.rounds.proofs.rounds.Tie as tie
 
--- where the function starts, from the check on; what was given; and the call
+-- where the function starts, from the check on; and what was given
 abbrev start : tie.After-rounds-refusal → tie.Start
 start t = t .before .before .before .before .before .before .before .before
 
@@ -23,9 +19,6 @@ Given t = let a = start t .args in frame (a .width) (a .height) (a .layout) (now
 
 abbrev Before : tie.After-rounds-refusal → Lent
 Before t = let a = start t .args in lent (now (a .red)) (now (a .green)) (now (a .blue)) (now (a .work))
-
-abbrev call : tie.After-rounds-refusal → Call Answer Lent
-call t = rounds-call (Given t) (start t .args .settings) (Before t)
 
 rounds-refusal-requires : tie.Need-rounds-refusal-requires
 rounds-refusal-requires c κs = search needs
@@ -40,7 +33,7 @@ same-length-3 : tie.Need-same-length-3
 same-length-3 c = search needs
 
 returns : tie.Need-returns
-returns c = refuses (call (c .before)) _ (c .before .rounds-refusal .ensures) (λ z. omega (arith, z, c .if1 .taken))
+returns c = refuses (c .before .rounds-refusal .ensures) (λ z. omega (arith, z, c .if1 .taken))
 
 rewrite-colours-requires : tie.Need-rewrite-colours-requires
 rewrite-colours-requires c κs =
@@ -65,8 +58,7 @@ returns-2 : tie.Need-returns-2
 returns-2 c =
     let done = c .before .before .before .before .before in
     let e = done .before .before .before .before in
-    let t = e .before in
-    accepts (call t) (t .rounds-refusal .result) (t .rounds-refusal .ensures) (omega (arith, e .if1 .left)) refl refl (done .rewrite-colours .ensures)
+    plain-accepts (e .before .rounds-refusal .ensures) (omega (arith, e .if1 .left)) (done .rewrite-colours .ensures)
 
 pub rounds-spec : {M : Type 1} → statement M
 rounds-spec =

@@ -36,7 +36,7 @@ slice-aggregate-project-rows-8 c = search needs
 project-rows-requires : tie.Need-project-rows-requires
 project-rows-requires c κs =
     let p = c .before .before .before .before .before .before .before .before .before .before .pre in
-    let w = p .size .width-to in
+    let w = p .sizes .width-to in
     (p, ((omega (arith, w), omega (arith, w), omega (arith, w), omega (arith, w), omega (arith, w), omega (arith, w)), (omega (arith, w), omega (arith, w))))
 
 same-length : tie.Need-same-length

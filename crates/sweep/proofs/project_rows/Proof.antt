@@ -67,7 +67,7 @@ difference-row-requires c κs =
     let s = c .before .before .before in
     let a = s .args in
     let p = s .pre .0 in
-    (first-rows (a .given) (least s) (most s) (now (a .own)) (now (a .guide)) p, (p .size, s .pre .1 .0 .0))
+    (first-rows (a .given) (least s) (most s) (now (a .own)) (now (a .guide)) p, (p .sizes, s .pre .1 .0 .0))
 
 loop-holds : tie.Need-loop-holds Inv-loop μ-loop
 loop-holds c =
@@ -77,10 +77,10 @@ loop-holds c =
 
 -- ---- a turn
 add-reflected : tie.Need-add-reflected Inv-loop μ-loop
-add-reflected c = omega (arith, begun (c .before) .pre .0 .size .height-to)
+add-reflected c = omega (arith, begun (c .before) .pre .0 .sizes .height-to)
 
 reflected-requires : tie.Need-reflected-requires Inv-loop μ-loop
-reflected-requires c κs = let p = begun (c .before) .pre .0 .size in (p .height-from, omega (arith, p .height-to))
+reflected-requires c κs = let p = begun (c .before) .pre .0 .sizes in (p .height-from, omega (arith, p .height-to))
 
 difference-row-requires-2 : tie.Need-difference-row-requires-2 Inv-loop μ-loop
 difference-row-requires-2 c κs =
@@ -89,7 +89,7 @@ difference-row-requires-2 c κs =
     let s = begun l in
     let a = s .args in
     let p = s .pre .0 in
-    (next-rows (a .given) (least s) (most s) (now (a .own)) (now (a .guide)) p (l .loop .inv .1) (x .before .loop-test .taken) (x .reflected .ensures .0), (p .size, room-d l))
+    (next-rows (a .given) (least s) (most s) (now (a .own)) (now (a .guide)) p (l .loop .inv .1) (x .before .loop-test .taken) (x .reflected .ensures .0), (p .sizes, room-d l))
 
 parts-row-requires : tie.Need-parts-row-requires Inv-loop μ-loop
 parts-row-requires c κs =
@@ -103,13 +103,13 @@ parts-row-requires c κs =
     let v = l .loop .inv in
     let z = s .pre .1 .0 in
     let ring = ring-rows (a .given) (least s) (most s) (now (a .own)) (now (a .guide)) p (v .1) i (room-d l) (x .reflected .ensures .0) (d .difference-row2 .ensures) in
-    ((p .size, i, p .limit, ring), ((omega (arith, v .4, z .1), omega (arith, v .5, z .2), omega (arith, v .6, z .3), omega (arith, v .7, z .4), omega (arith, v .8, z .5)), (room-a l, room-b l)))
+    ((p .sizes, i, p .limit, ring), ((omega (arith, v .4, z .1), omega (arith, v .5, z .2), omega (arith, v .6, z .3), omega (arith, v .7, z .4), omega (arith, v .8, z .5)), (room-a l, room-b l)))
 
 ready-requires : tie.Need-ready-requires Inv-loop μ-loop
 ready-requires c κs = tt
 
 add-ready : tie.Need-add-ready Inv-loop μ-loop
-add-ready c = let l = turn-of (parts c) in omega (arith, begun l .pre .0 .size .height-to, l .loop .inv .0)
+add-ready c = let l = turn-of (parts c) in omega (arith, begun l .pre .0 .sizes .height-to, l .loop .inv .0)
 
 ready-requires-2 : tie.Need-ready-requires-2 Inv-loop μ-loop
 ready-requires-2 c κs = tt
@@ -126,7 +126,7 @@ settle-rows-requires c κs =
     settleable-next (a .given) (least s) (most s) (now (a .own)) (now (a .guide)) (s .pre .0) (l .loop .inv .1) (x .before .loop-test .taken) (room-d l) (x .reflected .ensures .0) (d .difference-row2 .ensures) (room-a l) (room-b l) (q .parts-row .ensures .0) (q .parts-row .ensures .1) (n .before .ready .ensures) (n .ready2 .ensures)
 
 add-r : tie.Need-add-r Inv-loop μ-loop
-add-r c = let l = turn-of (parts (c .before .before .before .before .before)) in omega (arith, begun l .pre .0 .size .height-to, l .loop .inv .0)
+add-r c = let l = turn-of (parts (c .before .before .before .before .before)) in omega (arith, begun l .pre .0 .sizes .height-to, l .loop .inv .0)
 
 loop-less : tie.Need-loop-less Inv-loop μ-loop
 loop-less c = omega arith
@@ -211,7 +211,7 @@ returns c =
     let a = s .args in
     let v = l .loop .inv in
     let f = b .before .before .ready3 .ensures in
-    all-projected (a .given) (least s) (most s) (now (a .own)) (now (a .guide)) (s .pre .0 .size) (rows-settled (a .given) (least s) (most s) (now (a .own)) (now (a .guide)) (s .pre .0) (room-a l) (room-b l) (v .1 .aparts) (v .1 .togethers) (omega (arith, f)) (omega arith) (v .1 .plane ∙ ap (with-rows (a .given) (least s) (most s) (now (a .own)) (now (a .guide))) (omega (arith, f, all e))) (λ q j k. (omega (arith, f, all e, j), omega (arith, all e, k))) (c .before .settle-rows2 .ensures))
+    all-projected (a .given) (least s) (most s) (now (a .own)) (now (a .guide)) (s .pre .0 .sizes) (rows-settled (a .given) (least s) (most s) (now (a .own)) (now (a .guide)) (s .pre .0) (room-a l) (room-b l) (v .1 .aparts) (v .1 .togethers) (omega (arith, f)) (omega arith) (v .1 .plane ∙ ap (with-rows (a .given) (least s) (most s) (now (a .own)) (now (a .guide))) (omega (arith, f, all e))) (λ q j k. (omega (arith, f, all e, j), omega (arith, all e, k))) (c .before .settle-rows2 .ensures))
     ∙ (λ j. with-projected (a .given) (back (s .fits .least) j) (back (s .fits .most) j) (now (a .own)) (now (a .guide)))
 
 pub project-rows-spec : {M : Type 1} → statement M

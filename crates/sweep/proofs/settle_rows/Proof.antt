@@ -48,7 +48,7 @@ found c = c .before .before
 five-slots-requires : tie.Need-five-slots-requires Inv-loop μ-loop
 five-slots-requires c κs =
     let s = c .before .before in
-    (s .pre .size, omega (arith, s .pre .to))
+    (s .pre .sizes, omega (arith, s .pre .to))
 
 -- the row lies inside
 inside : (l : tie.At-loop Inv-loop μ-loop) → let s = l .before in l .loop .r < s .args .last → row-at (s .args .given) (l .loop .r) + s .args .given .width ≤ length (now (s .args .own))

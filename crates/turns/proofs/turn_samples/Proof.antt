@@ -1,17 +1,12 @@
 -- `turns::turn_samples` meets its contract: one check, one branch, and then the turned samples.
 -- Assumes nothing.
 use mathlib.Core.Path.{refl}
-use mathlib.Core.List.{List}
-use Prim.Native.Nat.{ℕ}
 use native.Mathlib.Omega.{arith}
 use lib.ListN.{length}
 use denote.Ref.{now}
 use borrow.Author.Needs.{needs}
 use Rattle.planes.specs.Planes.{frame}
-use Rattle.questions.specs.Calls.{Call}
 use Rattle.questions.proofs.Answering.{refuses, accepts}
-use Rattle.turns.specs.Turning.{turn-call}
-use Rattle.turns.specs.declared.TurnedFrame.{TurnedFrame}
 use Rattle.turns.proofs.Calls.{Fillable, fillable, turned-answer}
 use Rattle.turns.proofs.turn_samples.Statement.{statement}
 use Rattle.turns.proofs.turn_samples.Tie as tie
@@ -19,12 +14,8 @@ use Rattle.turns.proofs.turn_samples.Tie as tie
 turn-refusal-requires : tie.Need-turn-refusal-requires
 turn-refusal-requires c κs = search needs
 
--- the call, by where it starts
-abbrev call : tie.Start → Call TurnedFrame (List ℕ)
-call s = let a = s .args in turn-call (a .turn .number) (frame (a .width) (a .height) (a .layout) (now (a .samples))) (now (a .out))
-
 returns : tie.Need-returns
-returns c = refuses (call (c .before .before .before .before)) _ (c .before .turn-refusal .ensures) (λ z. omega arith)
+returns c = refuses (c .before .turn-refusal .ensures) (λ z. omega arith)
 
 known : (c : tie.Else1)
     → let a = c .before .before .before .before .args in Fillable (a .width) (a .height) (a .layout) (length (now (a .samples))) (length (now (a .out)))
@@ -33,7 +24,7 @@ known c =
     fillable (a .turn .number) (a .width) (a .height) (a .layout) (length (now (a .samples))) (length (now (a .out))) (c .before .turn-refusal .result) (c .before .turn-refusal .ensures) (omega arith)
 
 fill-requires : tie.Need-fill-requires
-fill-requires c κs = let k = known (c .before) in (omega (arith, k .shape .width-from), omega (arith, k .shape .height-from), k .samples, k .buffer)
+fill-requires c κs = let k = known (c .before) in (omega (arith, k .shape .sizes .width-from), omega (arith, k .shape .sizes .height-from), k .samples, k .buffer)
 
 if-exchanged-requires : tie.Need-if-exchanged-requires
 if-exchanged-requires c κs = search needs
@@ -50,9 +41,8 @@ same-length c = search needs
 returns-2 : tie.Need-returns-2
 returns-2 c =
     let e = c .before .before .before .before .before .before .before in
-    let s = e .before .before .before .before in
-    let a = s .args in
-    accepts (call s) (e .before .turn-refusal .result) (e .before .turn-refusal .ensures) (e .if1 .left) refl
+    let a = e .before .before .before .before .args in
+    accepts (e .before .turn-refusal .ensures) (e .if1 .left) refl
     (turned-answer (a .turn .number) (frame (a .width) (a .height) (a .layout) (now (a .samples))) (c .before .before .if-exchanged .ensures) (c .before .if-exchanged2 .ensures) (c .layout-after .ensures))
     (c .before .before .before .before .before .fill .ensures (a .layout))
 

@@ -1,28 +1,17 @@
 -- `update::update` meets its contract: one check, one branch, and then the update.
 -- Assumes nothing.
-use mathlib.Core.Path.{refl}
-use mathlib.Core.List.{List}
-use Prim.Native.Nat.{ℕ}
 use native.Mathlib.Omega.{arith}
-use lib.IntN.{ℤ}
 use denote.Ref.{now}
 use borrow.Author.Needs.{needs}
 use Rattle.planes.specs.Planes.{Frame, frame}
-use Rattle.questions.specs.Settings.{ceiling}
-use Rattle.questions.specs.Calls.{Call}
-use Rattle.questions.specs.declared.Answer.{Answer}
-use Rattle.questions.proofs.Answering.{refuses, accepts}
-use Rattle.update.specs.Calls.{update-call}
+use Rattle.questions.proofs.Answering.{refuses, plain-accepts}
 use Rattle.update.proofs.Calls.{update-workable}
 use Rattle.update.proofs.update.Statement.{statement}
 use Rattle.update.proofs.update.Tie as tie
 
--- what was given, and the call
+-- what was given
 abbrev Given : tie.Start → Frame
 Given s = let a = s .args in frame (a .width) (a .height) (a .layout) (now (a .mosaic))
-
-abbrev call : tie.Start → Call Answer (List ℕ × List ℤ)
-call s = update-call ceiling (Given s) (now (s .args .green)) (now (s .args .work))
 
 update-refusal-requires : tie.Need-update-refusal-requires
 update-refusal-requires c κs = search needs
@@ -31,7 +20,7 @@ same-length : tie.Need-same-length
 same-length c = search needs
 
 returns : tie.Need-returns
-returns c = refuses (call (c .before .before .before .before .before)) _ (c .before .update-refusal .ensures) (λ z. omega (arith, z, c .if1 .taken))
+returns c = refuses (c .before .update-refusal .ensures) (λ z. omega (arith, z, c .if1 .taken))
 
 update-colours-requires : tie.Need-update-colours-requires
 update-colours-requires c κs =
@@ -52,7 +41,7 @@ returns-2 c =
     let e = done .before .before .before in
     let s = e .before .before .before .before .before in
     let t = e .before .update-refusal in
-    accepts (call s) (t .result) (t .ensures) (omega (arith, e .if1 .left)) refl refl (λ m. (done .update-colours .ensures .0 m, done .update-colours .ensures .1 m))
+    plain-accepts (e .before .update-refusal .ensures) (omega (arith, e .if1 .left)) (λ m. (done .update-colours .ensures .0 m, done .update-colours .ensures .1 m))
 
 pub update-spec : {M : Type 1} → statement M
 update-spec =

@@ -51,7 +51,7 @@ returns c =
     let a = s .args in
     let u = s .pre in (
       both-colours _ (a .width) (a .height) (a .layout) (now (a .mosaic)) (now (a .green)) (first .update-places .ensures .0) (second .update-places2 .ensures .0),
-      work-zeroed _ (a .width) (a .height) _ _ _ _ (now (a .mosaic)) (now (a .green)) _ (now (a .work)) (omega (arith, u .width-from)) (omega (arith, u .height-from)) (u .work) (first .update-places .ensures .1) (second .update-places2 .ensures .1) (c .before .zero .ensures),
+      work-zeroed _ (a .width) (a .height) _ _ _ _ (now (a .mosaic)) (now (a .green)) _ (now (a .work)) (omega (arith, u .sizes .width-from)) (omega (arith, u .sizes .height-from)) (u .work) (first .update-places .ensures .1) (second .update-places2 .ensures .1) (c .before .zero .ensures),
     )
 
 pub update-colours-spec : {M : Type 1} → statement M

@@ -36,10 +36,10 @@ near : (s : tie.Start) → s .args .a * s .args .width ≤ 2 * s .args .width
 near s = mul-le-mul-right (s .args .width) (let h = s .pre .1 in omega arith)
 
 mul-from : tie.Need-mul-from
-mul-from c = let s = c .before .before in record { fits = omega (arith, near s, s .pre .0 .width-to) }
+mul-from c = let s = c .before .before in record { fits = omega (arith, near s, s .pre .0 .sizes .width-to) }
 
 add-from : tie.Need-add-from
-add-from c = let s = c .before .before in record { fits = omega (arith, near s, s .pre .0 .width-to, s .pre .2) }
+add-from c = let s = c .before .before in record { fits = omega (arith, near s, s .pre .0 .sizes .width-to, s .pre .2) }
 
 mul-down : tie.Need-mul-down
 mul-down c = search needs
@@ -53,7 +53,7 @@ room : (s : tie.Start)
 room s =
     let a = s .args in
     let u = s .pre .0 in
-    omega (arith, few-places (a .width) (a .height) (a .a) (a .b) (omega (arith, u .width-from)) (omega (arith, u .height-from)), u .work)
+    omega (arith, few-places (a .width) (a .height) (a .a) (a .b) (omega (arith, u .sizes .width-from)) (omega (arith, u .sizes .height-from)), u .work)
 
 gather-requires : tie.Need-gather-requires
 unfolding half
@@ -61,7 +61,7 @@ gather-requires c κs =
     let s = c .before .before .before .before in
     let a = s .args in
     let u = s .pre .0 in
-    (small-rows (a .width) (a .height) (a .a) (a .b) (s .pre .1) (s .pre .2) (now (a .green)) (u .greens) (u .width-from) _ _ (omega arith) (omega arith), room s)
+    (small-rows (a .width) (a .height) (a .a) (a .b) (s .pre .1) (s .pre .2) (now (a .green)) (u .greens) (u .sizes .width-from) _ _ (omega arith) (omega arith), room s)
 
 -- ---- the places before the projection
 abbrev gathered : tie.After-project-arg → tie.After-gather
@@ -98,7 +98,7 @@ scatter-requires c κs =
     let a = s .args in
     let u = s .pre .0 in (
       mixed-narrow (a .width) (a .height) (a .a) (a .b) (s .pre .1) (s .pre .2) (now (a .mosaic)) (now (a .green)) (now (a .work)) (room s) (a .top) (mixed p) (omega arith),
-      small-rows (a .width) (a .height) (a .a) (a .b) (s .pre .1) (s .pre .2) (now (a .green)) (u .greens) (u .width-from) _ _ (omega arith) (omega arith),
+      small-rows (a .width) (a .height) (a .a) (a .b) (s .pre .1) (s .pre .2) (now (a .green)) (u .greens) (u .sizes .width-from) _ _ (omega arith) (omega arith),
     )
 
 same-length : tie.Need-same-length

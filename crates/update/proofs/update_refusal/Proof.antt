@@ -1,16 +1,11 @@
 -- `update::update_refusal` meets its contract: 1, 2 and 3, then 6, 8, 9 and 10.
 -- Assumes nothing.
-use mathlib.Core.Path.{_≡_}
 use mathlib.Core.Bool.{true, false}
-use Prim.Native.Nat.{ℕ, _*_, _≤_, _<_}
+use Prim.Native.Nat.{_*_, _≤_, _<_}
 use native.Mathlib.Omega.{arith}
-use denote.Ref.{now}
 use borrow.Author.Needs.{needs}
 use Rattle.integers.proofs.Tests.{tested}
-use Rattle.planes.specs.Planes.{frame}
-use Rattle.questions.specs.Questions.{ask, shape-questions}
-use Rattle.questions.proofs.Asking.{asking, ask-first, ask-later, AllYes, all-yes, shape-is}
-use Rattle.update.specs.Calls.{updating-questions, update-questions}
+use Rattle.questions.proofs.Asking.{asking, ask-first, ask-then, sizes-known}
 use Rattle.update.proofs.update_refusal.Statement.{statement}
 use Rattle.update.proofs.update_refusal.Tie as tie
 
@@ -18,43 +13,26 @@ shape-requires : tie.Need-shape-requires
 shape-requires c κs = search needs
 
 returns : tie.Need-returns
-returns c =
-    let a = c .before .before .before .before .args in
-    ask-first (shape-questions (a .width) (a .height) (a .layout)) _ _ (c .before .shape .ensures) (c .if1 .taken)
-
-known : (c : tie.Else1)
-    → let a = c .before .before .before .before .args in AllYes (shape-questions (a .width) (a .height) (a .layout))
-known c =
-    let a = c .before .before .before .before .args in
-    all-yes (shape-questions (a .width) (a .height) (a .layout)) tt (c .before .shape .result) (c .before .shape .ensures) (c .if1 .left)
+returns c = ask-first _ _ _ (c .before .shape .ensures) (c .if1 .taken)
 
 mul-count : tie.Need-mul-count
-mul-count c =
-    let a = c .before .before .before .before .args in
-    record { fits = omega (arith, shape-is (a .width) (a .height) (a .layout) (known c) .area) }
-
--- 6, 8, 9 and 10
-rest : (c : tie.Else1) (m : ℕ)
-    → let a = c .before .before .before .before .args in
-    m ≡ ask (updating-questions (a .top) (a .width * a .height) (now (a .mosaic)) (now (a .green)) (a .room)) → m ≡ ask (update-questions (a .top) (frame (a .width) (a .height) (a .layout) (now (a .mosaic))) (now (a .green)) (a .room))
-rest c m r = let a = c .before .before .before .before .args in ask-later (shape-questions (a .width) (a .height) (a .layout)) _ m (known c) r
+mul-count c = record { fits = omega (arith, sizes-known _ _ _ _ _ (c .before .shape .ensures) tt (c .if1 .left) .area) }
 
 returns-2 : tie.Need-returns-2
-returns-2 c = rest (c .before) _ (search asking depth 24)
+returns-2 c = let k = c .before in ask-then _ _ _ _ (k .before .shape .ensures) tt (k .if1 .left) (search asking depth 24)
 
 returns-3 : tie.Need-returns-3
-returns-3 c = rest (c .before .before) _ (search asking depth 24)
+returns-3 c = let k = c .before .before in ask-then _ _ _ _ (k .before .shape .ensures) tt (k .if1 .left) (search asking depth 24)
 
 mul-if4 : tie.Need-mul-if4
-mul-if4 c =
-    let a = c .before .before .before .before .before .before .args in
-    record { fits = omega (arith, shape-is (a .width) (a .height) (a .layout) (known (c .before .before)) .area) }
+mul-if4 c = let k = c .before .before in record { fits = omega (arith, sizes-known _ _ _ _ _ (k .before .shape .ensures) tt (k .if1 .left) .area) }
 
 returns-4 : tie.Need-returns-4
 returns-4 c =
     let a = c .before .before .before .before .before .before .before .args in
     let short : a .room < 8 * (a .width * a .height) = omega (arith, c .if4 .taken) in
-    rest (c .before .before .before) _ (search asking depth 24)
+    let k = c .before .before .before in
+    ask-then _ _ _ _ (k .before .shape .ensures) tt (k .if1 .left) (search asking depth 24)
 
 -- the work buffer is long enough
 long : (c : tie.Else4)
@@ -68,7 +46,8 @@ returns-5 : tie.Need-returns-5
 returns-5 c =
     let room = long (c .before .before) in
     let above = tested true (c .before .samples-within .ensures) (c .if5 .taken) in
-    rest (c .before .before .before .before .before) _ (search asking depth 24)
+    let k = c .before .before .before .before .before in
+    ask-then _ _ _ _ (k .before .shape .ensures) tt (k .if1 .left) (search asking depth 24)
 
 samples-within-requires-2 : tie.Need-samples-within-requires-2
 samples-within-requires-2 c κs = search needs
@@ -78,14 +57,16 @@ returns-6 c =
     let room = long (c .before .before .before .before) in
     let within = tested false (c .before .before .before .samples-within .ensures) (c .before .before .if5 .left) in
     let above = tested true (c .before .samples-within2 .ensures) (c .if6 .taken) in
-    rest (c .before .before .before .before .before .before .before) _ (search asking depth 24)
+    let k = c .before .before .before .before .before .before .before in
+    ask-then _ _ _ _ (k .before .shape .ensures) tt (k .if1 .left) (search asking depth 24)
 
 returns-7 : tie.Need-returns-7
 returns-7 c =
     let room = long (c .before .before .before .before) in
     let within = tested false (c .before .before .before .samples-within .ensures) (c .before .before .if5 .left) in
     let within2 = tested false (c .before .samples-within2 .ensures) (c .if6 .left) in
-    rest (c .before .before .before .before .before .before .before) _ (search asking depth 24)
+    let k = c .before .before .before .before .before .before .before in
+    ask-then _ _ _ _ (k .before .shape .ensures) tt (k .if1 .left) (search asking depth 24)
 
 pub update-refusal-spec : {M : Type 1} → statement M
 update-refusal-spec =
