@@ -29,7 +29,7 @@ pub fn difference_line(
     out: &mut [i32],
     to: usize,
 )
-    requires { ⌜ Run 1073741824 (now own) at n × InRow (now guide) n from step × (to + n ≤ length (now out)) ⌝ }
+    requires { ⌜ Run 1073741824 (now own) at n × InRow (now guide) from n step × (to + n ≤ length (now out)) ⌝ }
     ensures { λ _. ⌜ now (out .exit) ≡ overwrite (now (out .entry)) to n (difference-line (now (own .entry)) at (now (guide .entry)) from step) ⌝ }
 {
     let mut k = 0;

@@ -60,7 +60,8 @@ pub fn clipped(z: i32, least: i32, most: i32) -> i32
     z
 }
 
-// A sum brought back to least..most: (sum + 512) whole-divided by 1,024, and clipped. It is for sums to which 512 can be added.
+// A sum brought back to least..most: (sum + 512) whole-divided by 1,024, and clipped. It is for sums to which 512 can be added, so that it does
+// not go by the sum's sign, which a loop over vectors would do both ways.
 pub fn rescale_bounded(sum: i32, least: i32, most: i32) -> i32
     requires { ⌜ Roundable sum ⌝ }
     ensures { λ r. ⌜ r ≡ rescaled 1024 least most sum ⌝ }

@@ -19,7 +19,7 @@ put l (suc n) at f = set (put l n at f) (at n) (f n)
 
 -- ---- what code asks of lists that it reads
 -- n samples from `from` on, `step` apart, lie in the list
-pub record InRow (samples : List ℕ) (n from step : ℕ) : Type 0 where
+pub record InRow (samples : List ℕ) (from n step : ℕ) : Type 0 where
   pub inside : (j : ℕ) → j < n → from + j * step < length samples
 
 -- and so do `rows` rows of `columns` samples, which are not empty: the rows `down` apart, the samples of a row `across`

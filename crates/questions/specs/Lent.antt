@@ -31,7 +31,7 @@ abbrev pub rooms-of : Lent → Rooms
 rooms-of given = record { three = lengths (given .three); work = length (given .work) }
 
 -- ---- the questions, in document 01's order
--- 6 of a mosaic, and 7 of three planes, where each has `count` samples
+-- 6 of a mosaic, and 7 of three planes, where each has `count` samples: the estimate call's too
 abbrev pub room-questions : ℕ → ℕ → Planes ℕ → List Question
 room-questions count given room =
     question 6 (eqb given count) ∷ question 7 (eqb (room .red) count) ∷ question 7 (eqb (room .green) count) ∷ question 7 (eqb (room .blue) count) ∷ []

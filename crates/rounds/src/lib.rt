@@ -53,7 +53,7 @@ fn unload(work: &[i32], plane: &mut [u16])
 
 // Every second sample of a row, n of them from `from` on, into the same places of the working plane.
 fn observe_row(mosaic: &[u16], from: usize, n: usize, work: &mut [i32])
-    requires { ⌜ InRow (now mosaic) n from 2 × (length (now mosaic) ≤ length (now work)) ⌝ }
+    requires { ⌜ InRow (now mosaic) from n 2 × (length (now mosaic) ≤ length (now work)) ⌝ }
     ensures { λ _. ⌜ now (work .exit) ≡ put (now (work .entry)) n (λ k. from + 2 * k) (λ k. sample (now (mosaic .entry)) (from + 2 * k)) ⌝ }
 {
     let mut k = 0;

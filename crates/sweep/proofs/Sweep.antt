@@ -142,7 +142,7 @@ module _ (g : Given) (least most : ℤ) (own : List ℤ) (guide : List ℕ) wher
         small = λ c k. subst (λ (z : ℤ). natAbs z ≤ reach) (sym (untouched r c i j)) (p .small (r * w + c) (place-inside j k));
       }
 
-      pub guide-row : (r : ℕ) → r < h → InRow guide w (guide-at g r) (g .across)
+      pub guide-row : (r : ℕ) → r < h → InRow guide (guide-at g r) w (g .across)
       guide-row r j = record { inside = λ c k. p .guide-inside r c j k }
 
       -- so its differences are the plane's
@@ -169,7 +169,7 @@ module _ (g : Given) (least most : ℤ) (own : List ℤ) (guide : List ℕ) wher
     whole : own ≡ with-rows (0 - 2)
     whole = overwrite-none own at _ ∙ ap (λ (n : ℕ). overwrite own at n (λ k. settled-plane (k / w) (k % w))) (sym (zero-mul w))
 
-    pub first-rows : Run reach own (row-at g 0) w × InRow guide w (guide-at g 0) (g .across)
+    pub first-rows : Run reach own (row-at g 0) w × InRow guide (guide-at g 0) w (g .across)
     first-rows = (own-row (omega arith) whole 0 (omega arith) (p .sizes .height-from), guide-row (omega arith) whole 0 (p .sizes .height-from))
 
     -- with row 0
@@ -279,9 +279,9 @@ module _ (g : Given) (least most : ℤ) (own : List ℤ) (guide : List ℕ) wher
 
       -- code's number x of that row
       module _ {x : ℕ} (is-x : x ≡ next) where
-        pub next-rows : Run reach now (row-at g x) w × InRow guide w (guide-at g x) (g .across)
+        pub next-rows : Run reach now (row-at g x) w × InRow guide (guide-at g x) w (g .across)
         next-rows =
-            subst (λ (q : ℕ). Run reach now (row-at g q) w × InRow guide w (guide-at g q) (g .across)) (sym is-x)
+            subst (λ (q : ℕ). Run reach now (row-at g q) w × InRow guide (guide-at g q) w (g .across)) (sym is-x)
             (own-row (omega arith) (s .plane) next (omega (arith, next-near .0)) (next-near .2), guide-row (omega arith) (s .plane) next (next-near .2))
 
       module _ (room : 3 * w ≤ length ring) {x : ℕ} (is-x : x ≡ next) {ring' : List ℤ} (laid : ring' ≡ overwrite ring (slot 3 w x) w (difference-row g now guide x)) where

@@ -58,7 +58,7 @@ fn five_slots(given: Given, r: usize) -> lines::Five
 
 // Row r of the differences, into its slot of the ring.
 fn difference_row(own: &[i32], guide: &[u16], given: Given, r: usize, ring: &mut [i32])
-    requires { ⌜ Run reach (now own) (row-at given r) (given .width) × InRow (now guide) (given .width) (guide-at given r) (given .across) ⌝ }
+    requires { ⌜ Run reach (now own) (row-at given r) (given .width) × InRow (now guide) (guide-at given r) (given .width) (given .across) ⌝ }
     requires { ⌜ Sizes 1 (given .width) (given .height) × (3 * given .width ≤ length (now ring)) ⌝ }
     ensures { λ _. ⌜ now (ring .exit) ≡ overwrite (now (ring .entry)) (slot 3 (given .width) r) (given .width) (difference-row given (now (own .entry)) (now (guide .entry)) r) ⌝ }
 {

@@ -6,13 +6,13 @@ use Prim.Native.Nat.{ℕ, _+_, _*_, _/_, _%_, _≤_, _<_}
 use native.Mathlib.Omega.{arith}
 use lib.Dec.{leb, eqb}
 use lib.ListN.{getD}
-use borrow.Author.Tests.{le-leb, lt-leb, leb-true, eqb-true}
+use borrow.Author.Tests.{le-leb, lt-leb, eqb-true}
 use Rattle.integers.proofs.Tests.{equal-below}
 use Rattle.planes.specs.Layout.{red-row, red-column, with-parities}
 use Rattle.planes.specs.Planes.{listing, plane-of, Frame, frame}
 use Rattle.planes.proofs.Layouts.{row-lt, column-lt, row-with, column-with, parities-again, own-parities}
 use Rattle.questions.specs.Questions.{ask}
-use Rattle.questions.proofs.Asking.{AllYes, all-yes, Shape, shape-is}
+use Rattle.questions.proofs.Asking.{all-yes, Shape, shape-is}
 use Rattle.turns.specs.Pictures.{Picture, exchanged, left-right, top-bottom, flip-if-even, steps-of, if-so, turned-by, turned, followed-by, number-of-steps, then-another}
 use Rattle.turns.specs.Frames.{picture-of, frame-of, turn-frame}
 use Rattle.turns.specs.Turning.{shape-turned, shape-turn-questions, length-questions, accepted-as}
@@ -214,15 +214,8 @@ pub samples-low : (t w h l : ℕ) (s : List ℕ) {out : List ℕ} → t < 4 → 
 samples-low t w h l s k e = e ∙ sym (turned-samples false t w h l s (lt-leb 4 t k))
 
 -- ---- what an accepted call knows
-pub record Turnable (t w h l : ℕ) : Type 0 where
-  pub turn : t ≤ 7
-  pub shape : Shape w h l
-  pub answers : AllYes (shape-turn-questions t w h l)
-
-pub turnable : (t w h l n : ℕ) → n ≡ ask (shape-turn-questions t w h l) → n ≡ 0 → Turnable t w h l
-turnable t w h l n e z =
-    let y = all-yes (shape-turn-questions t w h l) tt n e z in
-    record { turn = leb-true t 7 (y .0); shape = shape-is w h l (y .1); answers = y }
+pub shape-known : (t w h l n : ℕ) → n ≡ ask (shape-turn-questions t w h l) → n ≡ 0 → Shape w h l
+shape-known t w h l n e z = shape-is w h l (all-yes (shape-turn-questions t w h l) tt n e z .1)
 
 -- and the turning call
 pub record Fillable (w h l given room : ℕ) : Type 0 where

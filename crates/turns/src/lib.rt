@@ -174,7 +174,7 @@ fn fill_row(
     out: &mut [u16],
     at: usize,
 )
-    requires { ⌜ InRow (now samples) n from step ⌝ }
+    requires { ⌜ InRow (now samples) from n step ⌝ }
     requires { ⌜ at + n ≤ length (now out) ⌝ }
     ensures { λ _. ⌜ now (out .exit) ≡ overwrite (now (out .entry)) at n (source-row (now (samples .entry)) (eqb mirror 1) n from step) ⌝ }
 {

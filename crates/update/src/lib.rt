@@ -18,7 +18,7 @@ ghost use Rattle.update.specs.Places.{with-mixed};
 
 // Every second sample of a row, n of them from `from` on: into the work buffer, from `to` on.
 fn gather_row(green: &[u16], from: usize, n: usize, work: &mut [i32], to: usize)
-    requires { ⌜ InRow (now green) n from 2 × (to + n ≤ length (now work)) ⌝ }
+    requires { ⌜ InRow (now green) from n 2 × (to + n ≤ length (now work)) ⌝ }
     ensures { λ _. ⌜ now (work .exit) ≡ overwrite (now (work .entry)) to n (λ k. sample (now (green .entry)) (from + 2 * k)) ⌝ }
 {
     let mut k = 0;
@@ -42,7 +42,7 @@ fn gather(green: &[u16], from: usize, down: usize, columns: usize, rows: usize, 
 
 // n numbers of the work buffer, from `at` on, back to every second place of a row.
 fn scatter_row(work: &[i32], at: usize, n: usize, green: &mut [u16], from: usize)
-    requires { ⌜ Narrow (now work) at n × InRow (now green) n from 2 ⌝ }
+    requires { ⌜ Narrow (now work) at n × InRow (now green) from n 2 ⌝ }
     ensures { λ _. ⌜ now (green .exit) ≡ put (now (green .entry)) n (λ k. from + 2 * k) (λ k. natAbs (value (now (work .entry)) (at + k))) ⌝ }
 {
     let mut k = 0;

@@ -14,12 +14,12 @@ write-refusal-requires : tie.Need-write-refusal-requires
 write-refusal-requires c κs = search needs
 
 returns : tie.Need-returns
-returns c = refuses (c .before .write-refusal .ensures) (c .if1 .taken)
+returns c = refuses (c .before .write-refusal .ensures) (λ z. omega (arith, z, c .if1 .taken))
 
 known : (c : tie.Else1) → let a = c .before .before .before .before .args in Writable (a .f) (now (a .samples)) (length (now (a .out)))
 known c =
     let a = c .before .before .before .before .args in
-    writable (a .f) (now (a .samples)) (length (now (a .out))) _ (c .before .write-refusal .ensures) (c .if1 .left)
+    writable (a .f) (now (a .samples)) (length (now (a .out))) _ (c .before .write-refusal .ensures) (omega (arith, c .if1 .left))
 
 mul-at : tie.Need-mul-at
 mul-at c = search needs
@@ -45,7 +45,7 @@ returns-2 c =
     let w = p .before .before .before .before in
     let e = w .before .before in
     let a = e .before .before .before .before .args in
-    accepts (e .before .write-refusal .ensures) (e .if1 .left) refl (bytes-written (a .f) (now (a .samples)) _ (known e) refl)
+    accepts (e .before .write-refusal .ensures) (omega (arith, e .if1 .left)) refl (bytes-written (a .f) (now (a .samples)) _ (known e) refl)
     (packet-laid (a .f) (now (a .samples)) (now (a .out)) _ (known e) refl (w .write-samples .ensures) (p .put-trailer .ensures))
 
 pub write-packet-spec : {M : Type 1} → statement M

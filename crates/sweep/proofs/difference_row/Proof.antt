@@ -47,7 +47,7 @@ difference-line-requires c κs =
     let s = begun (c .before .before) in
     let g = s .args .given in
     let one : g .across ≡ 1 = c .before .if1 .taken in
-    (run-wider (omega arith) (s .pre .0 .0), subst (InRow (now (s .args .guide)) (g .width) (guide-at g (s .args .r))) one (s .pre .0 .1), room s)
+    (run-wider (omega arith) (s .pre .0 .0), subst (InRow (now (s .args .guide)) (guide-at g (s .args .r)) (g .width)) one (s .pre .0 .1), room s)
 
 difference-line-requires-2 : tie.Need-difference-line-requires-2
 difference-line-requires-2 c κs =

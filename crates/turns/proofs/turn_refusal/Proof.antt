@@ -3,7 +3,7 @@
 use native.Mathlib.Omega.{arith}
 use borrow.Author.Needs.{needs}
 use Rattle.questions.proofs.Asking.{asking, ask-first, ask-then}
-use Rattle.turns.proofs.Calls.{turnable}
+use Rattle.turns.proofs.Calls.{shape-known}
 use Rattle.turns.proofs.turn_refusal.Statement.{statement}
 use Rattle.turns.proofs.turn_refusal.Tie as tie
 
@@ -16,7 +16,7 @@ returns c = ask-first _ _ _ (c .before .shape-refusal .ensures) (c .if1 .taken)
 mul-count : tie.Need-mul-count
 mul-count c =
     let a = c .before .before .args in
-    record { fits = omega (arith, turnable (a .turn) (a .width) (a .height) (a .layout) _ (c .before .shape-refusal .ensures) (c .if1 .left) .shape .sizes .area) }
+    record { fits = omega (arith, shape-known (a .turn) (a .width) (a .height) (a .layout) _ (c .before .shape-refusal .ensures) (c .if1 .left) .sizes .area) }
 
 returns-2 : tie.Need-returns-2
 returns-2 c = let k = c .before in ask-then _ _ _ _ (k .before .shape-refusal .ensures) tt (k .if1 .left) (search asking)

@@ -5,7 +5,7 @@ use borrow.Author.Needs.{needs}
 use Rattle.questions.proofs.Answering.{answer-no, answer-yes}
 use Rattle.turns.specs.Turning.{shape-turn-questions, number-of-layout}
 use Rattle.turns.specs.declared.TurnedLayout.the-variants.{Layout}
-use Rattle.turns.proofs.Calls.{turnable}
+use Rattle.turns.proofs.Calls.{shape-known}
 use Rattle.turns.proofs.Turn.turned_layout.Statement.{statement}
 use Rattle.turns.proofs.Turn.turned_layout.Tie as tie
 
@@ -20,7 +20,7 @@ returns c =
 layout-after-requires : tie.Need-layout-after-requires
 layout-after-requires c κs =
     let a = c .before .before .args in
-    turnable (a .self .number) (a .width) (a .height) (a .layout) (c .before .shape-refusal .result) (c .before .shape-refusal .ensures) (c .if1 .left) .shape .layout-to
+    shape-known (a .self .number) (a .width) (a .height) (a .layout) _ (c .before .shape-refusal .ensures) (c .if1 .left) .layout-to
 
 returns-2 : tie.Need-returns-2
 returns-2 c =
