@@ -1,64 +1,43 @@
 -- The laws of what lies outside a limit, and of what the projection's sums read and how large they grow. Assumes nothing.
 use mathlib.Core.Path.{_≡_, refl, sym, _∙_, ap, subst}
-use mathlib.Core.Bool.{true, false}
-use mathlib.Core.List.{List, [], _∷_}
+use mathlib.Core.List.{List}
 use Prim.Native.Nat.{ℕ, _+_, _*_, _≤_, _<_}
 use native.Mathlib.Nat.{zero-add}
 use native.Mathlib.Omega.{arith}
 use lib.Dec.{T}
-use lib.IntN.{ℤ, pos, negℤ, natAbs, _+ℤ_, _-ℤ_, +ℤ-idl, +ℤ-idr}
+use lib.IntN.{ℤ, pos, natAbs}
 use lib.ListN.{length}
-use lib.Signed.{ltZ, nonNeg}
+use lib.Signed.{nonNeg}
 use mir.Syntax.{w32}
 use mir.Val.{toZ, ofZ}
 use mir.Facts.{toZ-ofZ as back}
 use Rattle.integers.specs.Lists.{overwrite}
 use Rattle.integers.proofs.Lists.{overwrite-cong}
-use Rattle.integers.proofs.Clamping.{clamp-low, clamp-high, clamp-mid}
 use Rattle.integers.proofs.Bounds.{fits-abs}
-use Rattle.integers.proofs.Linear.{linear, x₀, x₁, neg, number, _⊕_, _⊖_}
-use Rattle.border.specs.Border.{reflect}
 use Rattle.planes.specs.Lists.{value}
 use Rattle.filters.specs.Bank.{Taps, weighted, low-split, high-split, high-join}
 use Rattle.filters.proofs.Ranges.{gain, weighted-range}
 use Rattle.lines.specs.declared.Five.{Five}
-use Rattle.lines.specs.Lines.{Run, in-turn, three, padded}
-use Rattle.lines.proofs.Lines.{run-wider, read-small, three-small, three-read, three-range, padded-near, three-along, three-runs, five-runs}
+use Rattle.lines.specs.Lines.{Run, spaced, three, padded}
+use Rattle.lines.proofs.Lines.{run-wider, read-small, three-small, three-read, three-range, three-runs, three-along, five-runs, five-places}
 use Rattle.projection.specs.Fast.{excess, outer-part, crossed-along}
-use Rattle.projection.proofs.Parts.{excess-bound}
+use Rattle.projection.proofs.Outside.{excess-bound}
 use Rattle.details.specs.Details.{Triple, outer, from-place, crossed, Crossing}
-
--- ---- what lies outside a limit, by the two tests
-opposite : (limit : ℤ) → pos 0 -ℤ limit ≡ negℤ limit
-opposite limit = +ℤ-idl (negℤ limit)
-
-pub excess-below : (limit z : ℤ) → ltZ z (pos 0 -ℤ limit) ≡ true → z +ℤ limit ≡ excess limit z
-unfolding excess
-excess-below limit z t =
-    linear (z ∷ limit ∷ []) (x₀ ⊕ x₁) (x₀ ⊖ neg x₁) tt ∙ ap (λ x. z -ℤ x) (sym (clamp-low (negℤ limit) limit z (ap (ltZ z) (sym (opposite limit)) ∙ t)))
-
-pub excess-above : (limit z : ℤ) → ltZ z (pos 0 -ℤ limit) ≡ false → ltZ limit z ≡ true → z -ℤ limit ≡ excess limit z
-unfolding excess
-excess-above limit z t u = ap (λ x. z -ℤ x) (sym (clamp-high (negℤ limit) limit z (ap (ltZ z) (sym (opposite limit)) ∙ t) u))
-
-pub excess-none : (limit z : ℤ) → ltZ z (pos 0 -ℤ limit) ≡ false → ltZ limit z ≡ false → pos 0 ≡ excess limit z
-unfolding excess
-excess-none limit z t u = linear (z ∷ []) (number (pos 0)) (x₀ ⊖ x₀) tt ∙ ap (λ x. z -ℤ x) (sym (clamp-mid (negℤ limit) limit z (ap (ltZ z) (sym (opposite limit)) ∙ t) u))
 
 -- ---- what the machine reads of a list
 abbrev read : List ℤ → ℕ → ℤ
 read l k = toZ w32 (ofZ w32 (value l k))
 
 -- ---- three places of a padded line
-module _ (t : Taps) {m : ℕ} {l : List ℤ} {n : ℕ} (r : Triple m l n) (k : ℕ) (i : k < n) where
-  pub triple-small : (most : ℕ) → m ≤ most → (natAbs (read l k) ≤ most) × (natAbs (read l (1 + k)) ≤ most) × (natAbs (read l (2 + k)) ≤ most)
+module _ (t : Taps) {m : ℕ} {l : List ℤ} {d n : ℕ} (r : Triple m l d n) (k : ℕ) (i : k < n) where
+  pub triple-small : (most : ℕ) → m ≤ most → (natAbs (read l k) ≤ most) × (natAbs (read l (d + k)) ≤ most) × (natAbs (read l (2 * d + k)) ≤ most)
   triple-small most h =
-      subst (λ (j : ℕ). (natAbs (read l j) ≤ most) × (natAbs (read l (1 + k)) ≤ most) × (natAbs (read l (2 + k)) ≤ most)) (zero-add k) (three-small t (r .first) (r .second) (r .third) k i most h)
+      subst (λ (j : ℕ). (natAbs (read l j) ≤ most) × (natAbs (read l (d + k)) ≤ most) × (natAbs (read l (2 * d + k)) ≤ most)) (zero-add k) (three-small t (r .first) (r .second) (r .third) k i most h)
 
-  pub triple-read : m < 2147483648 → weighted t (pos 0) (read l k) (read l (1 + k)) (read l (2 + k)) (pos 0) ≡ three t l 0 1 2 k
-  triple-read h = ap (λ (j : ℕ). weighted t (pos 0) (read l j) (read l (1 + k)) (read l (2 + k)) (pos 0)) (sym (zero-add k)) ∙ three-read t (r .first) (r .second) (r .third) k i h
+  pub triple-read : m < 2147483648 → weighted t (pos 0) (read l k) (read l (d + k)) (read l (2 * d + k)) (pos 0) ≡ three t l 0 d (2 * d) k
+  triple-read h = ap (λ (j : ℕ). weighted t (pos 0) (read l j) (read l (d + k)) (read l (2 * d + k)) (pos 0)) (sym (zero-add k)) ∙ three-read t (r .first) (r .second) (r .third) k i h
 
-  pub triple-range : natAbs (three t l 0 1 2 k) ≤ gain t * m
+  pub triple-range : natAbs (three t l 0 d (2 * d) k) ≤ gain t * m
   triple-range = three-range t (r .first) (r .second) (r .third) k i
 
 -- ---- five places, of one list and of another in turn
@@ -79,9 +58,9 @@ module _ {m : ℕ} {x y : List ℤ} {v : Five} {n : ℕ} (r : Crossing m x y v n
   crossing-range = weighted-range high-join m _ _ _ _ _ (r .first .small k i) (r .second .small k i) (r .third .small k i) (r .fourth .small k i) (r .fifth .small k i)
 
 -- ---- what lies outside along a padded line
-pub outer-range : (t : Taps) (limit : ℤ) → T (nonNeg limit) → {m : ℕ} {l : List ℤ} {n : ℕ} → Triple m l n → (k : ℕ) → k < n → natAbs (outer t limit l k) ≤ gain t * m
+pub outer-range : (t : Taps) (limit : ℤ) → T (nonNeg limit) → {m : ℕ} {l : List ℤ} {d n : ℕ} → Triple m l d n → (k : ℕ) → k < n → natAbs (outer t limit d l k) ≤ gain t * m
 unfolding outer
-outer-range t limit s {m} {l} r k i = omega (arith, excess-bound limit (three t l 0 1 2 k) s, triple-range t r k i)
+outer-range t limit s {m} {l} {d} r k i = omega (arith, excess-bound limit (three t l 0 d (2 * d) k) s, triple-range t r k i)
 
 -- within a larger bound too
 pub crossing-wider : {m most : ℕ} → m ≤ most → {x y : List ℤ} {v : Five} {n : ℕ} → Crossing m x y v n → Crossing most x y v n
@@ -94,38 +73,40 @@ crossing-wider h r = record {
 }
 
 -- ---- along padded lines is along the lines
-module _ {n : ℕ} (some : 1 ≤ n) where
-  pub triple-padded : {m : ℕ} (l : List ℤ) {line : List ℤ} → 1 + n + 1 ≤ length l → line ≡ padded n 1 l → Run m l 1 n → Triple m line n
-  triple-padded l fit e r = let q = three-runs some l fit e r in record { first = q .0; second = q .1; third = q .2 }
+-- a line padded by d, three places
+module _ (d : ℕ) {n : ℕ} (some : 1 ≤ n) (l : List ℤ) {line : List ℤ} (fit : d + n + d ≤ length l) (e : line ≡ padded n d l) where
+  pub triple-padded : {m : ℕ} → Run m l d n → Triple m line d n
+  triple-padded r = let q = three-runs d some l fit e r in record { first = q .0; second = q .1; third = q .2 }
 
-  pub outer-padded : (t : Taps) → t .far ≡ pos 0 → (limit : ℤ) (l : List ℤ) {line : List ℤ} → 1 + n + 1 ≤ length l → line ≡ padded n 1 l → (k : ℕ) → k < n → outer t limit line k ≡ outer-part t limit n (from-place 1 l) k
+  outer-padded : (t : Taps) → t .far ≡ pos 0 → (limit : ℤ) (k : ℕ) → k < n → outer t limit d line k ≡ outer-part t limit d n (from-place d l) k
   unfolding outer outer-part
-  outer-padded t z limit l fit e k i = ap (λ (x : List ℤ). excess limit (three t x 0 1 2 k)) e ∙ ap (excess limit) (three-along t z n some l fit k i)
+  outer-padded t z limit k i = ap (excess limit) (three-along d some l fit e t z k i)
 
   -- as the calls leave them, where the limit is `given` as the machine reads it
-  pub outer-laid : {given limit : ℤ} → given ≡ limit → (l : List ℤ) {line : List ℤ} → 1 + n + 1 ≤ length l → line ≡ padded n 1 l → (out : List ℤ) {last : List ℤ} → last ≡ overwrite out 2 n (outer high-split given line)
-      → last ≡ overwrite out 2 n (outer-part high-split limit n (from-place 1 l))
+  pub outer-laid : {given limit : ℤ} → given ≡ limit → (out : List ℤ) (at : ℕ) {last : List ℤ} → last ≡ overwrite out at n (outer high-split given d line)
+      → last ≡ overwrite out at n (outer-part high-split limit d n (from-place d l))
   unfolding high-split
-  outer-laid {given} {limit} z l {line} fit e out q = q ∙ (λ j. overwrite out 2 n (outer high-split (z j) line)) ∙ overwrite-cong out 2 n _ _ (outer-padded high-split refl limit l fit e)
+  outer-laid {given} {limit} z out at q = q ∙ (λ j. overwrite out at n (outer high-split (z j) d line)) ∙ overwrite-cong out at n _ _ (outer-padded high-split refl limit)
 
-  pub outers-laid : (f : ℤ → ℤ → ℤ) {given limit : ℤ} → given ≡ limit → (l : List ℤ) {line : List ℤ} → 1 + n + 1 ≤ length l → line ≡ padded n 1 l → (out : List ℤ) {last : List ℤ}
-      → last ≡ overwrite out 2 n (λ k. f (outer high-split given line k) (outer low-split given line k))
-      → last ≡ overwrite out 2 n (λ k. f (outer-part high-split limit n (from-place 1 l) k) (outer-part low-split limit n (from-place 1 l) k))
+  pub outers-laid : (f : ℤ → ℤ → ℤ) {given limit : ℤ} → given ≡ limit → (out : List ℤ) (at : ℕ) {last : List ℤ}
+      → last ≡ overwrite out at n (λ k. f (outer high-split given d line k) (outer low-split given d line k))
+      → last ≡ overwrite out at n (λ k. f (outer-part high-split limit d n (from-place d l) k) (outer-part low-split limit d n (from-place d l) k))
   unfolding high-split low-split
-  outers-laid f {given} {limit} z l {line} fit e out q =
-      q ∙ (λ j. overwrite out 2 n (λ k. f (outer high-split (z j) line k) (outer low-split (z j) line k)))
-      ∙ overwrite-cong out 2 n _ _ (λ k i. λ j. f (outer-padded high-split refl limit l fit e k i j) (outer-padded low-split refl limit l fit e k i j))
+  outers-laid f {given} {limit} z out at q =
+      q ∙ (λ j. overwrite out at n (λ k. f (outer high-split (z j) d line k) (outer low-split (z j) d line k)))
+      ∙ overwrite-cong out at n _ _ (λ k i. λ j. f (outer-padded high-split refl limit k i j) (outer-padded low-split refl limit k i j))
 
-  pub crossing-padded : {m : ℕ} (x y : List ℤ) {x' y' : List ℤ} → 2 + n + 2 ≤ length x → 2 + n + 2 ≤ length y → x' ≡ padded n 2 x → y' ≡ padded n 2 y → Run m x 2 n → Run m y 2 n → Crossing m x' y' in-turn n
-  crossing-padded {m} x y {x'} {y'} fx fy ex ey rx ry =
-      let p = five-runs some x fx ex rx in
-      let q = five-runs some y fy ey ry in
-      record { first = p .first; second = q .second; third = p .third; fourth = q .fourth; fifth = p .fifth }
+-- lines padded by p, which is 2·d, five places
+module _ (d : ℕ) {n : ℕ} (some : 1 ≤ n) {p : ℕ} (pad : p ≡ 2 * d) (x y : List ℤ) {x' y' : List ℤ} (fx : p + n + p ≤ length x) (fy : p + n + p ≤ length y) (ex : x' ≡ padded n p x) (ey : y' ≡ padded n p y) where
+  pub crossing-padded : {m : ℕ} → Run m x p n → Run m y p n → Crossing m x' y' (spaced d) n
+  crossing-padded rx ry =
+      let u = five-runs d some pad x fx ex rx in
+      let v = five-runs d some pad y fy ey ry in
+      record { first = u .first; second = v .second; third = u .third; fourth = v .fourth; fifth = u .fifth }
 
-  pub crossed-padded : (x y : List ℤ) {x' y' : List ℤ} → 2 + n + 2 ≤ length x → 2 + n + 2 ≤ length y → x' ≡ padded n 2 x → y' ≡ padded n 2 y → (k : ℕ) → k < n → crossed x' y' in-turn k ≡ crossed-along n (from-place 2 x) (from-place 2 y) k
+  pub crossed-padded : (k : ℕ) → k < n → crossed x' y' (spaced d) k ≡ crossed-along d n (from-place p x) (from-place p y) k
   unfolding crossed crossed-along
-  crossed-padded x y {x'} {y'} fx fy ex ey k i = λ m.
-      weighted high-join (at x fx ex 0 (pos k -ℤ pos 2) (omega arith) refl m) (at y fy ey 1 (pos k -ℤ pos 1) (omega arith) refl m) (at x fx ex 2 (pos k) (omega arith) (+ℤ-idr (pos k)) m) (at y fy ey 3 (pos k +ℤ pos 1) (omega arith) refl m) (at x fx ex 4 (pos k +ℤ pos 2) (omega arith) refl m)
-    where
-      at : (l : List ℤ) {l' : List ℤ} → 2 + n + 2 ≤ length l → l' ≡ padded n 2 l → (s : ℕ) (j : ℤ) → s + k < 2 + n + 2 → pos k +ℤ (pos s -ℤ pos 2) ≡ j → value l' (s + k) ≡ value l (2 + reflect n j)
-      at l fit e s j b q = ap (λ (z : List ℤ). value z (s + k)) e ∙ padded-near n 2 some l fit s k j b q
+  crossed-padded k i =
+      let u = five-places d some pad x fx ex k i in
+      let v = five-places d some pad y fy ey k i in
+      λ m. weighted high-join (u .far-back m) (v .near-back m) (u .here m) (v .near-on m) (u .far-on m)

@@ -7,7 +7,7 @@ use lib.ListN.{getD}
 use Rattle.planes.specs.Lists.{value}
 use Rattle.filters.specs.Bank.{Taps, weighted, low-split, high-split, high-join, rescaled}
 use Rattle.lines.specs.declared.Five.{Five}
-use Rattle.lines.specs.Lines.{Run, in-turn, three}
+use Rattle.lines.specs.Lines.{Run, spaced, three}
 use Rattle.projection.specs.Fast.{excess}
 
 -- ---- the difference of a plane and its guide
@@ -18,23 +18,23 @@ guide-value guide from step k = pos (getD guide (from + k * step) 0)
 unfoldable pub difference-line : List ℤ → ℕ → List ℕ → ℕ → ℕ → ℕ → ℤ
 difference-line own at guide from step k = value own (at + k) -ℤ guide-value guide from step k
 
--- ---- along a padded line of n
--- its places, the ones after them, and the ones after those
-pub record Triple (m : ℕ) (line : List ℤ) (n : ℕ) : Type 0 where
+-- ---- along a padded line of n, with taps d places apart
+-- its places, the ones d after them, and the ones d after those
+pub record Triple (m : ℕ) (line : List ℤ) (d n : ℕ) : Type 0 where
   pub first : Run m line 0 n
-  pub second : Run m line 1 n
-  pub third : Run m line 2 n
+  pub second : Run m line d n
+  pub third : Run m line (2 * d) n
 
 -- what of a split filter's value lies outside the limit
-unfoldable pub outer : Taps → ℤ → List ℤ → ℕ → ℤ
-outer t limit line k = excess limit (three t line 0 1 2 k)
+unfoldable pub outer : Taps → ℤ → ℕ → List ℤ → ℕ → ℤ
+outer t limit d line k = excess limit (three t line 0 d (2 * d) k)
 
 -- both filters' parts: their difference and their sum
-unfoldable pub outer-minus : ℤ → List ℤ → ℕ → ℤ
-outer-minus limit line k = outer high-split limit line k -ℤ outer low-split limit line k
+unfoldable pub outer-minus : ℤ → ℕ → List ℤ → ℕ → ℤ
+outer-minus limit d line k = outer high-split limit d line k -ℤ outer low-split limit d line k
 
-unfoldable pub outer-plus : ℤ → List ℤ → ℕ → ℤ
-outer-plus limit line k = outer high-split limit line k +ℤ outer low-split limit line k
+unfoldable pub outer-plus : ℤ → ℕ → List ℤ → ℕ → ℤ
+outer-plus limit d line k = outer high-split limit d line k +ℤ outer low-split limit d line k
 
 -- the line that begins at a place of a list
 abbrev pub from-place : ℕ → List ℤ → ℕ → ℤ
@@ -55,11 +55,11 @@ pub record Crossing (m : ℕ) (x y : List ℤ) (starts : Five) (n : ℕ) : Type 
   pub fifth : Run m x (starts .e) n
 
 -- the joined parts of a row: along the row, from the three padded lines of parts
-unfoldable pub joined-apart : List ℤ → List ℤ → List ℤ → ℕ → ℤ
-joined-apart parts minus plus k = crossed minus plus in-turn k -ℤ crossed parts parts in-turn k
+unfoldable pub joined-apart : ℕ → List ℤ → List ℤ → List ℤ → ℕ → ℤ
+joined-apart d parts minus plus k = crossed minus plus (spaced d) k -ℤ crossed parts parts (spaced d) k
 
-unfoldable pub joined-together : List ℤ → List ℤ → List ℤ → ℕ → ℤ
-joined-together parts minus plus k = crossed minus plus in-turn k +ℤ crossed parts parts in-turn k
+unfoldable pub joined-together : ℕ → List ℤ → List ℤ → List ℤ → ℕ → ℤ
+joined-together d parts minus plus k = crossed minus plus (spaced d) k +ℤ crossed parts parts (spaced d) k
 
 -- ---- 1,024 times a value, less a joined sum, brought back
 unfoldable pub settled : ℤ → ℤ → ℤ → ℤ → ℤ

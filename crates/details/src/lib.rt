@@ -1,12 +1,13 @@
-// Inner: the sums of the projection, along lines. No loop over a line reflects or branches, so that each is a loop over vectors.
+// Inner: the sums of the projection, along lines, with taps d places apart. No loop over a line reflects or branches, so that each is a loop
+// over vectors, with d as a plain number at run time too.
 ghost use mathlib.Core.Path.{_≡_};
-ghost use Prim.Native.Nat.{_+_, _≤_, _<_};
+ghost use Prim.Native.Nat.{_+_, _*_, _≤_, _<_};
 ghost use lib.IntN.{natAbs, pos, _+ℤ_, _-ℤ_};
 ghost use lib.ListN.{length};
 ghost use Rattle.integers.specs.Lists.{overwrite};
 ghost use Rattle.planes.specs.Lists.{InRow, value};
 ghost use Rattle.filters.specs.Bank.{Distance, low-split, high-split, high-join, along};
-ghost use Rattle.lines.specs.Lines.{Run, in-turn, padded};
+ghost use Rattle.lines.specs.Lines.{Run, spaced, padded};
 ghost use Rattle.projection.specs.Fast.{excess as outside, outer-part, crossed-along};
 ghost use Rattle.details.specs.Details.{difference-line, Triple, outer, outer-minus, outer-plus, from-place, crossed, Crossing, joined-apart, joined-together, settled};
 
@@ -54,79 +55,91 @@ fn excess(limit: i32, z: i32) -> i32
 }
 
 // What of the high split filter's value lies outside the limit, at place k along a padded line of n.
-fn outer_high(line: &[i32], limit: i32, n: usize, k: usize) -> i32
-    requires { ⌜ Distance limit × Triple 134217728 (now line) n × (k < n) ⌝ }
-    ensures { λ r. ⌜ r ≡ outer high-split limit (now (line .entry)) k ⌝ }
+fn outer_high(line: &[i32], limit: i32, d: usize, n: usize, k: usize) -> i32
+    requires { ⌜ Distance limit × Triple 134217728 (now line) d n × (k < n) ⌝ }
+    ensures { λ r. ⌜ r ≡ outer high-split limit d (now (line .entry)) k ⌝ }
 {
     excess(
         limit,
-        filters::high_split(line[k], line[1 + k], line[2 + k]),
+        filters::high_split(line[k], line[d + k], line[2 * d + k]),
     )
 }
 
 // And of the low one's.
-fn outer_low(line: &[i32], limit: i32, n: usize, k: usize) -> i32
-    requires { ⌜ Distance limit × Triple 134217728 (now line) n × (k < n) ⌝ }
-    ensures { λ r. ⌜ r ≡ outer low-split limit (now (line .entry)) k ⌝ }
+fn outer_low(line: &[i32], limit: i32, d: usize, n: usize, k: usize) -> i32
+    requires { ⌜ Distance limit × Triple 134217728 (now line) d n × (k < n) ⌝ }
+    ensures { λ r. ⌜ r ≡ outer low-split limit d (now (line .entry)) k ⌝ }
 {
-    excess(limit, filters::low_split(line[k], line[1 + k], line[2 + k]))
+    excess(
+        limit,
+        filters::low_split(line[k], line[d + k], line[2 * d + k]),
+    )
 }
 
 // Along a padded line of n that is low along the columns, what of band 2 lies outside the limit.
-fn outer_line(line: &[i32], limit: i32, n: usize, out: &mut [i32], at: usize)
-    requires { ⌜ Distance limit × Triple 134217728 (now line) n × (at + n ≤ length (now out)) ⌝ }
-    ensures { λ _. ⌜ now (out .exit) ≡ overwrite (now (out .entry)) at n (outer high-split limit (now (line .entry))) ⌝ }
+fn outer_line(line: &[i32], limit: i32, d: usize, n: usize, out: &mut [i32], at: usize)
+    requires { ⌜ Distance limit × Triple 134217728 (now line) d n × (at + n ≤ length (now out)) ⌝ }
+    ensures { λ _. ⌜ now (out .exit) ≡ overwrite (now (out .entry)) at n (outer high-split limit d (now (line .entry))) ⌝ }
 {
     let mut k = 0;
     while k < n {
-        out[at + k] = outer_high(line, limit, n, k);
+        out[at + k] = outer_high(line, limit, d, n, k);
         k += 1;
     }
 }
 
 // Along a padded line of n that is high along the columns, what of bands 3 and 4 lies outside: their difference and their sum.
-fn outer_lines(line: &[i32], limit: i32, n: usize, minus: &mut [i32], plus: &mut [i32], at: usize)
-    requires { ⌜ Distance limit × Triple 134217728 (now line) n × (at + n ≤ length (now minus)) × (at + n ≤ length (now plus)) ⌝ }
-    ensures { λ _. ⌜ now (minus .exit) ≡ overwrite (now (minus .entry)) at n (outer-minus limit (now (line .entry))) ⌝ }
-    ensures { λ _. ⌜ now (plus .exit) ≡ overwrite (now (plus .entry)) at n (outer-plus limit (now (line .entry))) ⌝ }
+fn outer_lines(
+    line: &[i32],
+    limit: i32,
+    d: usize,
+    n: usize,
+    minus: &mut [i32],
+    plus: &mut [i32],
+    at: usize,
+)
+    requires { ⌜ Distance limit × Triple 134217728 (now line) d n × (at + n ≤ length (now minus)) × (at + n ≤ length (now plus)) ⌝ }
+    ensures { λ _. ⌜ now (minus .exit) ≡ overwrite (now (minus .entry)) at n (outer-minus limit d (now (line .entry))) ⌝ }
+    ensures { λ _. ⌜ now (plus .exit) ≡ overwrite (now (plus .entry)) at n (outer-plus limit d (now (line .entry))) ⌝ }
 {
     let mut k = 0;
     while k < n {
-        let q = outer_high(line, limit, n, k);
-        let p = outer_low(line, limit, n, k);
+        let q = outer_high(line, limit, d, n, k);
+        let p = outer_low(line, limit, d, n, k);
         minus[at + k] = q - p;
         plus[at + k] = q + p;
         k += 1;
     }
 }
 
-// Lines of n, from place 1 of `low` and of `high` on, which are low and high along the columns: what of the details along them lies outside
-// the limit, from place 2 on. The places beside the two lines are scratch.
+// Lines of n, from place d of `low` and of `high` on, which are low and high along the columns: what of the details along them lies outside
+// the limit, from place 2·d on. The places beside the two lines are scratch.
 pub fn outer_along(
     low: &mut [i32],
     high: &mut [i32],
     limit: i32,
+    d: usize,
     n: usize,
     parts: &mut [i32],
     minus: &mut [i32],
     plus: &mut [i32],
 )
-    requires { ⌜ (1 ≤ n) × (n ≤ 2048) × (n + 2 ≤ length (now low)) × (n + 2 ≤ length (now high)) × Run 134217728 (now low) 1 n × Run 134217728 (now high) 1 n ⌝ }
-    requires { ⌜ Distance limit × (2 + n ≤ length (now parts)) × (2 + n ≤ length (now minus)) × (2 + n ≤ length (now plus)) ⌝ }
-    ensures { λ _. ⌜ (now (low .exit) ≡ padded n 1 (now (low .entry))) × (now (high .exit) ≡ padded n 1 (now (high .entry))) ⌝ }
-    ensures { λ _. ⌜ now (parts .exit) ≡ overwrite (now (parts .entry)) 2 n (outer-part high-split limit n (from-place 1 (now (low .entry)))) ⌝ }
-    ensures { λ _. ⌜ now (minus .exit) ≡ overwrite (now (minus .entry)) 2 n (λ k. outer-part high-split limit n (from-place 1 (now (high .entry))) k -ℤ outer-part low-split limit n (from-place 1 (now (high .entry))) k) ⌝ }
-    ensures { λ _. ⌜ now (plus .exit) ≡ overwrite (now (plus .entry)) 2 n (λ k. outer-part high-split limit n (from-place 1 (now (high .entry))) k +ℤ outer-part low-split limit n (from-place 1 (now (high .entry))) k) ⌝ }
+    requires { ⌜ (1 ≤ n) × (n ≤ 2048) × (d ≤ 2) × (d + n + d ≤ length (now low)) × (d + n + d ≤ length (now high)) × Run 134217728 (now low) d n × Run 134217728 (now high) d n ⌝ }
+    requires { ⌜ Distance limit × (2 * d + n ≤ length (now parts)) × (2 * d + n ≤ length (now minus)) × (2 * d + n ≤ length (now plus)) ⌝ }
+    ensures { λ _. ⌜ (now (low .exit) ≡ padded n d (now (low .entry))) × (now (high .exit) ≡ padded n d (now (high .entry))) ⌝ }
+    ensures { λ _. ⌜ now (parts .exit) ≡ overwrite (now (parts .entry)) (2 * d) n (outer-part high-split limit d n (from-place d (now (low .entry)))) ⌝ }
+    ensures { λ _. ⌜ now (minus .exit) ≡ overwrite (now (minus .entry)) (2 * d) n (λ k. outer-part high-split limit d n (from-place d (now (high .entry))) k -ℤ outer-part low-split limit d n (from-place d (now (high .entry))) k) ⌝ }
+    ensures { λ _. ⌜ now (plus .exit) ≡ overwrite (now (plus .entry)) (2 * d) n (λ k. outer-part high-split limit d n (from-place d (now (high .entry))) k +ℤ outer-part low-split limit d n (from-place d (now (high .entry))) k) ⌝ }
 {
-    lines::pad_line(low, n, 1);
-    outer_line(low, limit, n, parts, 2);
-    lines::pad_line(high, n, 1);
-    outer_lines(high, limit, n, minus, plus, 2);
+    lines::pad_line(low, n, d);
+    outer_line(low, limit, d, n, parts, 2 * d);
+    lines::pad_line(high, n, d);
+    outer_lines(high, limit, d, n, minus, plus, 2 * d);
 }
 
 // Five values, of x and of y in turn, through the high join filter.
-fn crossed_at(x: &[i32], y: &[i32], starts: lines::Five, n: usize, k: usize) -> i32
-    requires { ⌜ Crossing 134217728 (now x) (now y) starts n × (k < n) ⌝ }
+pub fn crossed_at(x: &[i32], y: &[i32], starts: lines::Five, n: usize, k: usize) -> i32
+    requires { ⌜ Crossing 178956970 (now x) (now y) starts n × (k < n) ⌝ }
     ensures { λ r. ⌜ r ≡ crossed (now (x .entry)) (now (y .entry)) starts k ⌝ }
 {
     filters::high_join(
@@ -143,24 +156,25 @@ fn join_parts(
     parts: &[i32],
     minus: &[i32],
     plus: &[i32],
+    d: usize,
     n: usize,
     apart: &mut [i32],
     together: &mut [i32],
     at: usize,
 )
-    requires { ⌜ Crossing 67108864 (now parts) (now parts) in-turn n × Crossing 67108864 (now minus) (now plus) in-turn n ⌝ }
-    requires { ⌜ (at + n ≤ length (now apart)) × (at + n ≤ length (now together)) ⌝ }
-    ensures { λ _. ⌜ now (apart .exit) ≡ overwrite (now (apart .entry)) at n (joined-apart (now (parts .entry)) (now (minus .entry)) (now (plus .entry))) ⌝ }
-    ensures { λ _. ⌜ now (together .exit) ≡ overwrite (now (together .entry)) at n (joined-together (now (parts .entry)) (now (minus .entry)) (now (plus .entry))) ⌝ }
+    requires { ⌜ Crossing 67108864 (now parts) (now parts) (spaced d) n × Crossing 67108864 (now minus) (now plus) (spaced d) n ⌝ }
+    requires { ⌜ (d ≤ 2) × (at + n ≤ length (now apart)) × (at + n ≤ length (now together)) ⌝ }
+    ensures { λ _. ⌜ now (apart .exit) ≡ overwrite (now (apart .entry)) at n (joined-apart d (now (parts .entry)) (now (minus .entry)) (now (plus .entry))) ⌝ }
+    ensures { λ _. ⌜ now (together .exit) ≡ overwrite (now (together .entry)) at n (joined-together d (now (parts .entry)) (now (minus .entry)) (now (plus .entry))) ⌝ }
 {
     let mut k = 0;
     while k < n {
         let starts = lines::Five {
             a: 0,
-            b: 1,
-            c: 2,
-            d: 3,
-            e: 4,
+            b: d,
+            c: 2 * d,
+            d: 3 * d,
+            e: 4 * d,
         };
         let p = crossed_at(parts, parts, starts, n, k);
         let q = crossed_at(minus, plus, starts, n, k);
@@ -170,27 +184,29 @@ fn join_parts(
     }
 }
 
-// Lines of n, from place 2 of `parts`, `minus` and `plus` on, joined along them: the difference and the sum of what the two give, from `at`
+// Lines of n, from place 2·d of `parts`, `minus` and `plus` on, joined along them: the difference and the sum of what the two give, from `at`
 // on. The places beside the three lines are scratch.
 pub fn join_along(
     parts: &mut [i32],
     minus: &mut [i32],
     plus: &mut [i32],
+    d: usize,
     n: usize,
     apart: &mut [i32],
     together: &mut [i32],
     at: usize,
 )
-    requires { ⌜ (1 ≤ n) × (n ≤ 2048) × (n + 4 ≤ length (now parts)) × (n + 4 ≤ length (now minus)) × (n + 4 ≤ length (now plus)) ⌝ }
-    requires { ⌜ Run 67108864 (now parts) 2 n × Run 67108864 (now minus) 2 n × Run 67108864 (now plus) 2 n × (at + n ≤ length (now apart)) × (at + n ≤ length (now together)) ⌝ }
-    ensures { λ _. ⌜ (now (parts .exit) ≡ padded n 2 (now (parts .entry))) × (now (minus .exit) ≡ padded n 2 (now (minus .entry))) × (now (plus .exit) ≡ padded n 2 (now (plus .entry))) ⌝ }
-    ensures { λ _. ⌜ now (apart .exit) ≡ overwrite (now (apart .entry)) at n (λ k. crossed-along n (from-place 2 (now (minus .entry))) (from-place 2 (now (plus .entry))) k -ℤ along high-join 1 n (from-place 2 (now (parts .entry))) k) ⌝ }
-    ensures { λ _. ⌜ now (together .exit) ≡ overwrite (now (together .entry)) at n (λ k. crossed-along n (from-place 2 (now (minus .entry))) (from-place 2 (now (plus .entry))) k +ℤ along high-join 1 n (from-place 2 (now (parts .entry))) k) ⌝ }
+    requires { ⌜ (1 ≤ n) × (n ≤ 2048) × (d ≤ 2) × (2 * d + n + 2 * d ≤ length (now parts)) × (2 * d + n + 2 * d ≤ length (now minus)) × (2 * d + n + 2 * d ≤ length (now plus)) ⌝ }
+    requires { ⌜ Run 67108864 (now parts) (2 * d) n × Run 67108864 (now minus) (2 * d) n × Run 67108864 (now plus) (2 * d) n × (at + n ≤ length (now apart)) × (at + n ≤ length (now together)) ⌝ }
+    ensures { λ _. ⌜ (now (parts .exit) ≡ padded n (2 * d) (now (parts .entry))) × (now (minus .exit) ≡ padded n (2 * d) (now (minus .entry))) × (now (plus .exit) ≡ padded n (2 * d) (now (plus .entry))) ⌝ }
+    ensures { λ _. ⌜ now (apart .exit) ≡ overwrite (now (apart .entry)) at n (λ k. crossed-along d n (from-place (2 * d) (now (minus .entry))) (from-place (2 * d) (now (plus .entry))) k -ℤ along high-join d n (from-place (2 * d) (now (parts .entry))) k) ⌝ }
+    ensures { λ _. ⌜ now (together .exit) ≡ overwrite (now (together .entry)) at n (λ k. crossed-along d n (from-place (2 * d) (now (minus .entry))) (from-place (2 * d) (now (plus .entry))) k +ℤ along high-join d n (from-place (2 * d) (now (parts .entry))) k) ⌝ }
 {
-    lines::pad_line(parts, n, 2);
-    lines::pad_line(minus, n, 2);
-    lines::pad_line(plus, n, 2);
-    join_parts(parts, minus, plus, n, apart, together, at);
+    let pad = 2 * d;
+    lines::pad_line(parts, n, pad);
+    lines::pad_line(minus, n, pad);
+    lines::pad_line(plus, n, pad);
+    join_parts(parts, minus, plus, d, n, apart, together, at);
 }
 
 // 1,024 times x, less a joined sum, brought back to least..most.

@@ -90,7 +90,7 @@ brought-back top s = natAbs (rescaled 1024 (pos 0) (pos top) s)
 
 -- ---- what the filters in code ask of a value: no partial sum of any of the four then leaves 32 bits
 abbrev pub Small : ℤ → Type 0
-Small z = natAbs z ≤ 134217728
+Small z = natAbs z ≤ 178956970
 
 -- a distance from 0 that code compares with, as a number of the machine
 pub record Distance (most : ℤ) : Type 0 where

@@ -21,7 +21,7 @@ use Rattle.filters.specs.Bank.{Taps, weighted, tap, along, low-join, high-join}
 use Rattle.filters.proofs.Taps.{weighted-three}
 use Rattle.filters.proofs.Ranges.{gain, weighted-range}
 use Rattle.lines.specs.declared.Five.{Five}
-use Rattle.lines.specs.Lines.{Run, Runs, in-turn, three, five, joined, meant, padded}
+use Rattle.lines.specs.Lines.{Run, Runs, spaced, three, five, joined, meant, padded}
 
 -- ---- runs
 -- a value of a run, as the machine reads it
@@ -152,26 +152,70 @@ module _ (n pad : ℕ) (some : 1 ≤ n) where
             let back : pad + (meant n pad (o + i) - pad) ≡ meant n pad (o + i) = omega (arith, q .0) in
             omega (arith, ap natAbs (padded-at (o + i) (omega arith)), ap (λ (p : ℕ). natAbs (value l p)) back, b)
 
--- ---- the filters along a padded line are the filters along the line
-pub three-along : (t : Taps) → t .far ≡ pos 0 → (n : ℕ) → 1 ≤ n → (l : List ℤ) → 1 + n + 1 ≤ length l → (k : ℕ) → k < n
-    → three t (padded n 1 l) 0 1 2 k ≡ along t 1 n (λ j. value l (1 + j)) k
-unfolding three along tap
-three-along t z n some l fit k h =
-    (λ m. weighted t (pos 0) (at 0 (pos k -ℤ pos 1) (omega arith) refl m) (at 1 (pos k) (omega arith) (+ℤ-idr (pos k)) m) (at 2 (pos k +ℤ pos 1) (omega arith) refl m) (pos 0))
-    ∙ weighted-three t z (X (pos k -ℤ pos 2)) (X (pos k -ℤ pos 1)) (X (pos k)) (X (pos k +ℤ pos 1)) (X (pos k +ℤ pos 2))
-  where
-    X : ℤ → ℤ
-    X i = value l (1 + reflect n i)
+-- ---- the filters along a padded line are the filters along the line, with taps d places apart
+-- s places on in a line that is padded by p: a before the place, at it, or a after it
+back-by : (k a p s : ℕ) → p ≡ s + a → pos k +ℤ (pos s -ℤ pos p) ≡ pos k -ℤ pos a
+back-by k a p s e = ap (λ (q : ℕ). pos k +ℤ (pos s -ℤ pos q)) e ∙ linear (pos k ∷ pos s ∷ pos a ∷ []) (x₀ ⊕ (x₁ ⊖ (x₁ ⊕ x₂))) (x₀ ⊖ x₂) tt
 
-    at : (s : ℕ) (i : ℤ) → s + k < 1 + n + 1 → pos k +ℤ (pos s -ℤ pos 1) ≡ i → value (padded n 1 l) (s + k) ≡ X i
-    at s i b e = padded-near n 1 some l fit s k i b e
+here-by : (k p s : ℕ) → s ≡ p → pos k +ℤ (pos s -ℤ pos p) ≡ pos k
+here-by k p s e = ap (λ (q : ℕ). pos k +ℤ (pos q -ℤ pos p)) e ∙ linear (pos k ∷ pos p ∷ []) (x₀ ⊕ (x₁ ⊖ x₁)) x₀ tt
 
-pub five-along : (t : Taps) (n : ℕ) → 1 ≤ n → (l : List ℤ) → 2 + n + 2 ≤ length l → (k : ℕ) → k < n → five t (padded n 2 l) in-turn k ≡ along t 1 n (λ j. value l (2 + j)) k
-unfolding five along tap
-five-along t n some l fit k h = λ m. weighted t (at 0 (pos k -ℤ pos 2) (omega arith) refl m) (at 1 (pos k -ℤ pos 1) (omega arith) refl m) (at 2 (pos k) (omega arith) (+ℤ-idr (pos k)) m) (at 3 (pos k +ℤ pos 1) (omega arith) refl m) (at 4 (pos k +ℤ pos 2) (omega arith) refl m)
-  where
-    at : (s : ℕ) (i : ℤ) → s + k < 2 + n + 2 → pos k +ℤ (pos s -ℤ pos 2) ≡ i → value (padded n 2 l) (s + k) ≡ value l (2 + reflect n i)
-    at s i b e = padded-near n 2 some l fit s k i b e
+on-by : (k a p s : ℕ) → s ≡ p + a → pos k +ℤ (pos s -ℤ pos p) ≡ pos k +ℤ pos a
+on-by k a p s e = ap (λ (q : ℕ). pos k +ℤ (pos q -ℤ pos p)) e ∙ linear (pos k ∷ pos p ∷ pos a ∷ []) (x₀ ⊕ ((x₁ ⊕ x₂) ⊖ x₁)) (x₀ ⊕ x₂) tt
+
+-- three places of a line that is padded by d
+module _ (d : ℕ) {n : ℕ} (some : 1 ≤ n) (l : List ℤ) {line : List ℤ} (fit : d + n + d ≤ length l) (e : line ≡ padded n d l) where
+  pub three-runs : {m : ℕ} → Run m l d n → Run m line 0 n × Run m line d n × Run m line (2 * d) n
+  three-runs {m} r =
+      subst (λ (x : List ℤ). Run m x 0 n × Run m x d n × Run m x (2 * d) n) (sym e)
+      (run-padded n d some l fit m r 0 n (omega arith), run-padded n d some l fit m r d n (omega arith), run-padded n d some l fit m r (2 * d) n (omega arith))
+
+  pub three-along : (t : Taps) → t .far ≡ pos 0 → (k : ℕ) → k < n → three t line 0 d (2 * d) k ≡ along t d n (λ j. value l (d + j)) k
+  unfolding three along tap
+  three-along t z k h =
+      (λ m. weighted t (pos 0) (at 0 (pos k -ℤ pos d) (omega arith) (back-by k d d 0 (omega arith)) m) (at d (pos k) (omega arith) (here-by k d d refl) m) (at (2 * d) (pos k +ℤ pos d) (omega arith) (on-by k d d (2 * d) (omega arith)) m) (pos 0))
+      ∙ weighted-three t z (X (pos k -ℤ pos (2 * d))) (X (pos k -ℤ pos d)) (X (pos k)) (X (pos k +ℤ pos d)) (X (pos k +ℤ pos (2 * d)))
+    where
+      X : ℤ → ℤ
+      X i = value l (d + reflect n i)
+
+      at : (s : ℕ) (i : ℤ) → s + k < d + n + d → pos k +ℤ (pos s -ℤ pos d) ≡ i → value line (s + k) ≡ X i
+      at s i b q = ap (λ (x : List ℤ). value x (s + k)) e ∙ padded-near n d some l fit s k i b q
+
+-- five places of lines that are padded by p, which is 2·d
+module _ (d : ℕ) {n : ℕ} (some : 1 ≤ n) {p : ℕ} (pad : p ≡ 2 * d) (l : List ℤ) {line : List ℤ} (fit : p + n + p ≤ length l) (e : line ≡ padded n p l) where
+  pub five-runs : {m : ℕ} → Run m l p n → Runs m line (spaced d) n
+  five-runs {m} r = subst (λ (x : List ℤ). Runs m x (spaced d) n) (sym e) (record {
+    first = run-padded n p some l fit m r 0 n (omega arith);
+    second = run-padded n p some l fit m r d n (omega arith);
+    third = run-padded n p some l fit m r (2 * d) n (omega arith);
+    fourth = run-padded n p some l fit m r (3 * d) n (omega arith);
+    fifth = run-padded n p some l fit m r (4 * d) n (omega arith);
+  })
+
+  -- what stands at them, for place k
+  pub record FivePlaces (k : ℕ) : Type 0 where
+    pub far-back : value line (0 + k) ≡ value l (p + reflect n (pos k -ℤ pos (2 * d)))
+    pub near-back : value line (d + k) ≡ value l (p + reflect n (pos k -ℤ pos d))
+    pub here : value line (2 * d + k) ≡ value l (p + reflect n (pos k))
+    pub near-on : value line (3 * d + k) ≡ value l (p + reflect n (pos k +ℤ pos d))
+    pub far-on : value line (4 * d + k) ≡ value l (p + reflect n (pos k +ℤ pos (2 * d)))
+
+  pub five-places : (k : ℕ) → k < n → FivePlaces k
+  five-places k h = record {
+    far-back = at 0 (pos k -ℤ pos (2 * d)) (omega arith) (back-by k (2 * d) p 0 (omega arith));
+    near-back = at d (pos k -ℤ pos d) (omega arith) (back-by k d p d (omega arith));
+    here = at (2 * d) (pos k) (omega arith) (here-by k p (2 * d) (sym pad));
+    near-on = at (3 * d) (pos k +ℤ pos d) (omega arith) (on-by k d p (3 * d) (omega arith));
+    far-on = at (4 * d) (pos k +ℤ pos (2 * d)) (omega arith) (on-by k (2 * d) p (4 * d) (omega arith));
+  }
+    where
+      at : (s : ℕ) (i : ℤ) → s + k < p + n + p → pos k +ℤ (pos s -ℤ pos p) ≡ i → value line (s + k) ≡ value l (p + reflect n i)
+      at s i b q = ap (λ (x : List ℤ). value x (s + k)) e ∙ padded-near n p some l fit s k i b q
+
+  pub five-along : (t : Taps) (k : ℕ) → k < n → five t line (spaced d) k ≡ along t d n (λ j. value l (p + j)) k
+  unfolding five along tap
+  five-along t k h = let q = five-places k h in λ m. weighted t (q .far-back m) (q .near-back m) (q .here m) (q .near-on m) (q .far-on m)
 
 -- ---- as the calls leave them
 -- five lines through the low join filter, and then five through the high one added
@@ -186,24 +230,3 @@ module _ {low : List ℤ} {v : Five} {n : ℕ} (r : Runs 67108864 low v n) (out 
       p ∙ (λ m. overwrite (laid m) at n (λ k. value (laid m) (at + k) +ℤ five high-join high v k))
       ∙ overwrite-again (pos 0) out at n n (five low-join low v) (λ k. value (overwrite out at n (five low-join low v)) (at + k) +ℤ five high-join high v k) (omega arith) room
       ∙ overwrite-cong out at n _ _ (λ k i. ap (λ (x : ℤ). x +ℤ five high-join high v k) (overwrite-in out at n (five low-join low v) k (pos 0) room i))
-
--- a padded line, and then the filters along it
-module _ {n : ℕ} (some : 1 ≤ n) (l : List ℤ) {line : List ℤ} (fit : 1 + n + 1 ≤ length l) (e : line ≡ padded n 1 l) where
-  pub three-runs : {m : ℕ} → Run m l 1 n → Run m line 0 n × Run m line 1 n × Run m line 2 n
-  three-runs {m} r = subst (λ (x : List ℤ). Run m x 0 n × Run m x 1 n × Run m x 2 n) (sym e) (run-padded n 1 some l fit m r 0 n (omega arith), run-padded n 1 some l fit m r 1 n (omega arith), run-padded n 1 some l fit m r 2 n (omega arith))
-
-  pub split-laid : (t : Taps) → t .far ≡ pos 0 → (out : List ℤ) (at : ℕ) {last : List ℤ} → last ≡ overwrite out at n (three t line 0 1 2) → last ≡ overwrite out at n (along t 1 n (λ j. value l (1 + j)))
-  split-laid t z out at p = p ∙ overwrite-cong out at n _ _ (λ k i. ap (λ (x : List ℤ). three t x 0 1 2 k) e ∙ three-along t z n some l fit k i)
-
-module _ {n : ℕ} (some : 1 ≤ n) (l : List ℤ) {line : List ℤ} (fit : 2 + n + 2 ≤ length l) (e : line ≡ padded n 2 l) where
-  pub five-runs : {m : ℕ} → Run m l 2 n → Runs m line in-turn n
-  five-runs {m} r = subst (λ (x : List ℤ). Runs m x in-turn n) (sym e) (record {
-    first = run-padded n 2 some l fit m r 0 n (omega arith);
-    second = run-padded n 2 some l fit m r 1 n (omega arith);
-    third = run-padded n 2 some l fit m r 2 n (omega arith);
-    fourth = run-padded n 2 some l fit m r 3 n (omega arith);
-    fifth = run-padded n 2 some l fit m r 4 n (omega arith);
-  })
-
-  pub five-laid : (t : Taps) (k : ℕ) → k < n → five t line in-turn k ≡ along t 1 n (λ j. value l (2 + j)) k
-  five-laid t k i = ap (λ (x : List ℤ). five t x in-turn k) e ∙ five-along t n some l fit k i

@@ -1,7 +1,7 @@
 -- The filters along lines that stand in lists: n places one after another, or a line padded on both sides with reflected places.
 -- Assumes nothing.
 use mathlib.Core.List.{List}
-use Prim.Native.Nat.{ℕ, _+_, _≤_, _<_}
+use Prim.Native.Nat.{ℕ, _+_, _*_, _≤_, _<_}
 use lib.IntN.{ℤ, pos, natAbs, _+ℤ_, _-ℤ_}
 use lib.ListN.{length}
 use Rattle.integers.specs.Lists.{overwrite}
@@ -23,9 +23,9 @@ pub record Runs (m : ℕ) (l : List ℤ) (starts : Five) (n : ℕ) : Type 0 wher
   pub fourth : Run m l (starts .d) n
   pub fifth : Run m l (starts .e) n
 
--- five places next to each other
-abbrev pub in-turn : Five
-in-turn = record { a = 0; b = 1; c = 2; d = 3; e = 4 }
+-- five places, each so many after the one before it
+abbrev pub spaced : ℕ → Five
+spaced spacing = record { a = 0; b = spacing; c = 2 * spacing; d = 3 * spacing; e = 4 * spacing }
 
 -- three and five lines of one list, from as many places on, through the taps at place k
 unfoldable pub three : Taps → List ℤ → ℕ → ℕ → ℕ → ℕ → ℤ

@@ -46,7 +46,7 @@ pub struct Five {
 }
 
 // Five lines of n through the low join filter: into `out`, from `at` on.
-fn join_low(source: &[i32], starts: Five, n: usize, out: &mut [i32], at: usize)
+pub fn join_low(source: &[i32], starts: Five, n: usize, out: &mut [i32], at: usize)
     requires { ⌜ Runs 67108864 (now source) starts n ⌝ }
     requires { ⌜ at + n ≤ length (now out) ⌝ }
     ensures { λ _. ⌜ now (out .exit) ≡ overwrite (now (out .entry)) at n (five low-join (now (source .entry)) starts) ⌝ }
@@ -98,7 +98,7 @@ pub fn join_lines(low: &[i32], high: &[i32], starts: Five, n: usize, out: &mut [
 // The `pad` places from `from` on of a padded line of n: each takes the value of the place that it means. They lie outside the
 // middle, where the values are read.
 fn pad_side(line: &mut [i32], n: usize, pad: usize, from: usize)
-    requires { ⌜ (1 ≤ n) × (n ≤ 2048) × (pad ≤ 2) × (pad + n ≤ length (now line)) × (from + pad ≤ length (now line)) ⌝ }
+    requires { ⌜ (1 ≤ n) × (n ≤ 2048) × (pad ≤ 4) × (pad + n ≤ length (now line)) × (from + pad ≤ length (now line)) ⌝ }
     requires { ⌜ ((i : ℕ) → i < n → (from ≤ pad + i) → from + pad ≤ pad + i) ⌝ }
     ensures { λ _. ⌜ now (line .exit) ≡ overwrite (now (line .entry)) from pad (λ k. value (now (line .entry)) (meant n pad (from + k))) ⌝ }
 {
@@ -112,7 +112,7 @@ fn pad_side(line: &mut [i32], n: usize, pad: usize, from: usize)
 
 // Both sides of a padded line.
 pub fn pad_line(line: &mut [i32], n: usize, pad: usize)
-    requires { ⌜ (1 ≤ n) × (n ≤ 2048) × (pad ≤ 2) × (pad + n + pad ≤ length (now line)) ⌝ }
+    requires { ⌜ (1 ≤ n) × (n ≤ 2048) × (pad ≤ 4) × (pad + n + pad ≤ length (now line)) ⌝ }
     ensures { λ _. ⌜ now (line .exit) ≡ padded n pad (now (line .entry)) ⌝ }
 {
     pad_side(line, n, pad, 0);

@@ -1,2 +1,3 @@
 pub mod Projection
+pub mod Outside
 pub mod Parts

@@ -1,6 +1,6 @@
 -- The projection as code goes: from a plane's sums is taken what the details of its difference to the guide have outside the limit.
 -- Assumes nothing.
-use Prim.Native.Nat.{ℕ}
+use Prim.Native.Nat.{ℕ, _*_}
 use lib.IntN.{ℤ, pos, negℤ, _+ℤ_, _-ℤ_}
 use Rattle.integers.specs.Numbers.{clamp}
 use Rattle.border.specs.Border.{reflect}
@@ -23,29 +23,29 @@ excess-details limit b = record {
 unfoldable pub difference : (ℕ → ℕ → ℤ) → (ℕ → ℕ → ℤ) → ℕ → ℕ → ℤ
 difference own guide r c = own r c -ℤ guide r c
 
--- ---- row by row: along a line of n, reflected at its border
+-- ---- row by row: along a line of n, reflected at its border, with taps d places apart
 -- what of a split filter's value lies outside the limit
-unfoldable pub outer-part : Taps → ℤ → ℕ → (ℕ → ℤ) → ℕ → ℤ
-outer-part t limit n line i = excess limit (along t 1 n line i)
+unfoldable pub outer-part : Taps → ℤ → ℕ → ℕ → (ℕ → ℤ) → ℕ → ℤ
+outer-part t limit d n line i = excess limit (along t d n line i)
 
 -- Five values, of one line and of another in turn, through the high join taps. Where the one holds q − p and the other q + p, this is p
 -- through the low join taps and q through the high ones (law `crossed-joins`).
-unfoldable pub crossed-along : ℕ → (ℕ → ℤ) → (ℕ → ℤ) → ℕ → ℤ
-crossed-along n x y i =
-    weighted high-join (x (reflect n (pos i -ℤ pos 2))) (y (reflect n (pos i -ℤ pos 1))) (x (reflect n (pos i))) (y (reflect n (pos i +ℤ pos 1))) (x (reflect n (pos i +ℤ pos 2)))
+unfoldable pub crossed-along : ℕ → ℕ → (ℕ → ℤ) → (ℕ → ℤ) → ℕ → ℤ
+crossed-along d n x y i =
+    weighted high-join (x (reflect n (pos i -ℤ pos (2 * d)))) (y (reflect n (pos i -ℤ pos d))) (x (reflect n (pos i))) (y (reflect n (pos i +ℤ pos d))) (x (reflect n (pos i +ℤ pos (2 * d))))
 
 -- ---- a row of the joined parts
 -- band 2's parts joined along the row, from the line that is low along the columns
-unfoldable pub low-parts : ℤ → ℕ → (ℕ → ℤ) → ℕ → ℤ
-low-parts limit w low c = along high-join 1 w (outer-part high-split limit w low) c
+unfoldable pub low-parts : ℤ → ℕ → ℕ → (ℕ → ℤ) → ℕ → ℤ
+low-parts limit d w low c = along high-join d w (outer-part high-split limit d w low) c
 
 -- bands 3's and 4's, from the line that is high along them
-unfoldable pub high-parts : ℤ → ℕ → (ℕ → ℤ) → ℕ → ℤ
-high-parts limit w high c = along low-join 1 w (outer-part low-split limit w high) c +ℤ along high-join 1 w (outer-part high-split limit w high) c
+unfoldable pub high-parts : ℤ → ℕ → ℕ → (ℕ → ℤ) → ℕ → ℤ
+high-parts limit d w high c = along low-join d w (outer-part low-split limit d w high) c +ℤ along high-join d w (outer-part high-split limit d w high) c
 
 -- their difference and their sum
-unfoldable pub apart-row : ℤ → ℕ → (ℕ → ℤ) → (ℕ → ℤ) → ℕ → ℤ
-apart-row limit w low high c = high-parts limit w high c -ℤ low-parts limit w low c
+unfoldable pub apart-row : ℤ → ℕ → ℕ → (ℕ → ℤ) → (ℕ → ℤ) → ℕ → ℤ
+apart-row limit d w low high c = high-parts limit d w high c -ℤ low-parts limit d w low c
 
-unfoldable pub together-row : ℤ → ℕ → (ℕ → ℤ) → (ℕ → ℤ) → ℕ → ℤ
-together-row limit w low high c = high-parts limit w high c +ℤ low-parts limit w low c
+unfoldable pub together-row : ℤ → ℕ → ℕ → (ℕ → ℤ) → (ℕ → ℤ) → ℕ → ℤ
+together-row limit d w low high c = high-parts limit d w high c +ℤ low-parts limit d w low c

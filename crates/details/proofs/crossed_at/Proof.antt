@@ -62,7 +62,7 @@ start c = c .before .before .before .before .before .before .before .before .bef
 high-join-requires : tie.Need-high-join-requires
 high-join-requires c κs =
     let s = start c in
-    let small = crossing-small (s .pre .0) (s .args .k) (s .pre .1) 134217728 (omega arith) in
+    let small = crossing-small (s .pre .0) (s .args .k) (s .pre .1) 178956970 (omega arith) in
     search needs
 
 returns : tie.Need-returns

@@ -8,7 +8,7 @@ use mir.Syntax.{w32}
 use mir.Val.{toZ, ofZ}
 use mir.Facts.{toZ-ofZ as back}
 use Rattle.integers.proofs.Bounds.{fits, bounds}
-use Rattle.details.proofs.Details.{excess-below, excess-above, excess-none}
+use Rattle.projection.proofs.Outside.{excess-below, excess-above, excess-none}
 use Rattle.details.proofs.excess.Statement.{statement}
 use Rattle.details.proofs.excess.Tie as tie
 

@@ -18,18 +18,18 @@ use Rattle.details.proofs.join_parts.Statement.{statement}
 use Rattle.details.proofs.join_parts.Tie as tie
 
 abbrev Inv-loop : tie.InvT-loop
-Inv-loop parts minus plus n apart₀ together₀ at k₀ apart together k =
-    (k ≤ n) × (apart ≡ overwrite apart₀ at k (joined-apart parts minus plus)) × (together ≡ overwrite together₀ at k (joined-together parts minus plus)) × (length apart ≡ length apart₀) × (length together ≡ length together₀)
+Inv-loop parts minus plus d n apart₀ together₀ at k₀ apart together k =
+    (k ≤ n) × (apart ≡ overwrite apart₀ at k (joined-apart d parts minus plus)) × (together ≡ overwrite together₀ at k (joined-together d parts minus plus)) × (length apart ≡ length apart₀) × (length together ≡ length together₀)
 
 abbrev μ-loop : tie.MeasureT-loop
-μ-loop parts minus plus n apart₀ together₀ at k₀ apart together k = n - k
+μ-loop parts minus plus d n apart₀ together₀ at k₀ apart together k = n - k
 
 -- what is laid down
 abbrev Apart : tie.Start Inv-loop μ-loop → ℕ → ℤ
-Apart s = let a = s .args in joined-apart (now (a .parts)) (now (a .minus)) (now (a .plus))
+Apart s = let a = s .args in joined-apart (a .d) (now (a .parts)) (now (a .minus)) (now (a .plus))
 
 abbrev Together : tie.Start Inv-loop μ-loop → ℕ → ℤ
-Together s = let a = s .args in joined-together (now (a .parts)) (now (a .minus)) (now (a .plus))
+Together s = let a = s .args in joined-together (a .d) (now (a .parts)) (now (a .minus)) (now (a .plus))
 
 -- both sums are small
 small : (c : tie.After-crossed-at2 Inv-loop μ-loop) → (natAbs (toZ w32 (ofZ w32 (c .before .crossed-at .result))) ≤ 805306368) × (natAbs (toZ w32 (ofZ w32 (c .crossed-at2 .result))) ≤ 805306368)
@@ -42,6 +42,15 @@ small c =
 loop-holds : tie.Need-loop-holds Inv-loop μ-loop
 loop-holds c =
     let a = c .args in (omega arith, overwrite-none (now (a .apart)) (a .at) (Apart c), overwrite-none (now (a .together)) (a .at) (Together c), refl, refl)
+
+mul-together : tie.Need-mul-together Inv-loop μ-loop
+mul-together c = omega arith
+
+mul-t15 : tie.Need-mul-t15 Inv-loop μ-loop
+mul-t15 c = omega arith
+
+mul-together-2 : tie.Need-mul-together-2 Inv-loop μ-loop
+mul-together-2 c = omega arith
 
 crossed-at-requires : tie.Need-crossed-at-requires Inv-loop μ-loop
 crossed-at-requires c κs =
@@ -59,8 +68,8 @@ sub-apart c = let q = small c in fits (search bounds depth 14) tt
 add-together : tie.Need-add-together Inv-loop μ-loop
 add-together c = omega arith
 
-mul-together : tie.Need-mul-together Inv-loop μ-loop
-mul-together c = omega arith
+mul-together-3 : tie.Need-mul-together-3 Inv-loop μ-loop
+mul-together-3 c = omega arith
 
 slice-set-from-together : tie.Need-slice-set-from-together Inv-loop μ-loop
 slice-set-from-together c = omega arith
@@ -117,11 +126,14 @@ join-parts-spec =
     Inv-loop
     μ-loop
     loop-holds
+    mul-together
+    mul-t15
+    mul-together-2
     crossed-at-requires
     crossed-at-requires-2
     sub-apart
     add-together
-    mul-together
+    mul-together-3
     slice-set-from-together
     add-together-2
     add-t15

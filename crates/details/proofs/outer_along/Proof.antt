@@ -1,44 +1,41 @@
 -- `details::outer_along` meets its contract: each line is padded, and then the filters go along it.
 -- Assumes nothing.
 use mathlib.Core.Path.{sym, subst}
-use Prim.Native.Nat.{_+_, _≤_}
-use native.Mathlib.Omega.{arith}
+use Prim.Native.Nat.{_*_}
 use lib.IntN.{_+ℤ_, _-ℤ_}
-use lib.ListN.{length}
 use denote.Ref.{now}
 use mir.Facts.{toZ-ofZ as back}
+use borrow.Author.Needs.{needs}
 use Rattle.filters.specs.Bank.{Distance}
-use Rattle.integers.proofs.Bounds.{fits}
 use Rattle.details.specs.Details.{outer-minus, outer-plus}
 use Rattle.details.proofs.Details.{triple-padded, outer-laid, outers-laid}
-use borrow.Author.Needs.{needs}
 use Rattle.details.proofs.outer_along.Statement.{statement}
 use Rattle.details.proofs.outer_along.Tie as tie
 
 pad-line-requires : tie.Need-pad-line-requires
 pad-line-requires c κs = search needs
 
-fit-low : (s : tie.Start) → 1 + s .args .n + 1 ≤ length (now (s .args .low))
-fit-low s = omega arith
-
-fit-high : (s : tie.Start) → 1 + s .args .n + 1 ≤ length (now (s .args .high))
-fit-high s = omega arith
+mul-outer-line : tie.Need-mul-outer-line
+mul-outer-line c = search needs
 
 outer-line-requires : tie.Need-outer-line-requires
 outer-line-requires c κs =
     let s = c .before .before .before .before .before in
     let limit = subst Distance (sym (back (s .fits .limit))) (s .pre .1 .0) in
-    let runs = triple-padded (s .pre .0 .0) (now (s .args .low)) (fit-low s) (c .before .before .before .pad-line .ensures) (s .pre .0 .4) in
+    let runs = triple-padded (s .args .d) (s .pre .0 .0) (now (s .args .low)) (s .pre .0 .3) (c .before .before .before .pad-line .ensures) (s .pre .0 .5) in
     search needs
 
 pad-line-requires-2 : tie.Need-pad-line-requires-2
 pad-line-requires-2 c κs = search needs
 
+mul-outer-lines : tie.Need-mul-outer-lines
+mul-outer-lines c = search needs
+
 outer-lines-requires : tie.Need-outer-lines-requires
 outer-lines-requires c κs =
     let s = c .before .before .before .before .before .before .before .before .before .before .before .before .before in
     let limit = subst Distance (sym (back (s .fits .limit))) (s .pre .1 .0) in
-    let runs = triple-padded (s .pre .0 .0) (now (s .args .high)) (fit-high s) (c .before .before .before .before .pad-line2 .ensures) (s .pre .0 .5) in
+    let runs = triple-padded (s .args .d) (s .pre .0 .0) (now (s .args .high)) (s .pre .0 .4) (c .before .before .before .before .pad-line2 .ensures) (s .pre .0 .6) in
     search needs
 
 same-length : tie.Need-same-length
@@ -67,8 +64,8 @@ returns c =
     let f = c .before .before .before .before .before .before .before .pad-line2 .ensures in (
       (e, f),
       (
-        outer-laid one l (now (a .low)) (fit-low s) e (now (a .parts)) (c .before .before .before .before .before .before .before .before .before .before .outer-line .ensures),
-        (outers-laid one _-ℤ_ l (now (a .high)) (fit-high s) f (now (a .minus)) (c .before .before .outer-lines .ensures .0), outers-laid one _+ℤ_ l (now (a .high)) (fit-high s) f (now (a .plus)) (c .before .before .outer-lines .ensures .1)),
+        outer-laid (a .d) one (now (a .low)) (s .pre .0 .3) e l (now (a .parts)) (2 * a .d) (c .before .before .before .before .before .before .before .before .before .before .outer-line .ensures),
+        (outers-laid (a .d) one (now (a .high)) (s .pre .0 .4) f _-ℤ_ l (now (a .minus)) (2 * a .d) (c .before .before .outer-lines .ensures .0), outers-laid (a .d) one (now (a .high)) (s .pre .0 .4) f _+ℤ_ l (now (a .plus)) (2 * a .d) (c .before .before .outer-lines .ensures .1)),
       ),
     )
 
@@ -77,8 +74,10 @@ outer-along-spec =
     tie.close
     (tie.spec
     pad-line-requires
+    mul-outer-line
     outer-line-requires
     pad-line-requires-2
+    mul-outer-lines
     outer-lines-requires
     same-length
     same-length-2

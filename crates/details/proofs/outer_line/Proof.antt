@@ -9,25 +9,25 @@ use denote.Ref.{now}
 use mir.Syntax.{w32}
 use mir.Val.{toZ, ofZ}
 use mir.Facts.{toZ-ofZ as back}
+use borrow.Author.Needs.{needs}
 use Rattle.integers.specs.Lists.{overwrite}
 use Rattle.integers.proofs.Lists.{overwrite-none, overwrite-step}
-use Rattle.integers.proofs.Bounds.{fits, read-is}
+use Rattle.integers.proofs.Bounds.{read-is}
 use Rattle.filters.specs.Bank.{Distance, high-split}
 use Rattle.details.specs.Details.{outer}
-use borrow.Author.Needs.{needs}
 use Rattle.details.proofs.outer_line.Statement.{statement}
 use Rattle.details.proofs.outer_line.Tie as tie
 
 abbrev Inv-loop : tie.InvT-loop
-Inv-loop line limit n out₀ at k₀ out k =
-    (k ≤ n) × (out ≡ overwrite out₀ at k (outer high-split (toZ w32 limit) line)) × (length out ≡ length out₀)
+Inv-loop line limit d n out₀ at k₀ out k =
+    (k ≤ n) × (out ≡ overwrite out₀ at k (outer high-split (toZ w32 limit) d line)) × (length out ≡ length out₀)
 
 abbrev μ-loop : tie.MeasureT-loop
-μ-loop line limit n out₀ at k₀ out k = n - k
+μ-loop line limit d n out₀ at k₀ out k = n - k
 
 -- what is laid down, with the limit as the machine reads it
 abbrev Laid : tie.Start Inv-loop μ-loop → ℕ → ℤ
-Laid s = let a = s .args in outer high-split (toZ w32 (ofZ w32 (a .limit))) (now (a .line))
+Laid s = let a = s .args in outer high-split (toZ w32 (ofZ w32 (a .limit))) (a .d) (now (a .line))
 
 loop-holds : tie.Need-loop-holds Inv-loop μ-loop
 loop-holds c = let a = c .args in (omega arith, overwrite-none (now (a .out)) (a .at) (Laid c), refl)
@@ -38,11 +38,11 @@ outer-high-requires c κs =
     let limit = subst Distance (sym (back (s .fits .limit))) (s .pre .0) in
     search needs
 
-add-t9 : tie.Need-add-t9 Inv-loop μ-loop
-add-t9 c = omega arith
+add-t10 : tie.Need-add-t10 Inv-loop μ-loop
+add-t10 c = omega arith
 
-mul-t10 : tie.Need-mul-t10 Inv-loop μ-loop
-mul-t10 c = omega arith
+mul-t11 : tie.Need-mul-t11 Inv-loop μ-loop
+mul-t11 c = omega arith
 
 slice-set-from-out : tie.Need-slice-set-from-out Inv-loop μ-loop
 slice-set-from-out c = omega arith
@@ -70,7 +70,7 @@ returns c =
     let l = c .before in
     let s = l .before in
     let all : l .loop .k ≡ s .args .n = omega arith in
-    l .loop .inv .1 ∙ (λ i. overwrite (now (s .args .out)) (s .args .at) (all i) (outer high-split (back (s .fits .limit) i) (now (s .args .line))))
+    l .loop .inv .1 ∙ (λ i. overwrite (now (s .args .out)) (s .args .at) (all i) (outer high-split (back (s .fits .limit) i) (s .args .d) (now (s .args .line))))
 
 pub outer-line-spec : {M : Type 1} → statement M
 outer-line-spec =
@@ -80,8 +80,8 @@ outer-line-spec =
     μ-loop
     loop-holds
     outer-high-requires
-    add-t9
-    mul-t10
+    add-t10
+    mul-t11
     slice-set-from-out
     add-k
     loop-less

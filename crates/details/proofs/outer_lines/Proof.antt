@@ -9,6 +9,7 @@ use denote.Ref.{now}
 use mir.Syntax.{w32}
 use mir.Val.{toZ, ofZ}
 use mir.Facts.{toZ-ofZ as back}
+use borrow.Author.Needs.{needs}
 use Rattle.integers.specs.Lists.{overwrite}
 use Rattle.integers.proofs.Lists.{overwrite-none, overwrite-step}
 use Rattle.integers.proofs.Bounds.{fits, bounds, read-is, read-bound}
@@ -16,23 +17,22 @@ use Rattle.filters.specs.Bank.{Distance, low-split, high-split}
 use Rattle.filters.proofs.Ranges.{gain}
 use Rattle.details.specs.Details.{outer-minus, outer-plus}
 use Rattle.details.proofs.Details.{outer-range}
-use borrow.Author.Needs.{needs}
 use Rattle.details.proofs.outer_lines.Statement.{statement}
 use Rattle.details.proofs.outer_lines.Tie as tie
 
 abbrev Inv-loop : tie.InvT-loop
-Inv-loop line limit n minus₀ plus₀ at k₀ minus plus k =
-    (k ≤ n) × (minus ≡ overwrite minus₀ at k (outer-minus (toZ w32 limit) line)) × (plus ≡ overwrite plus₀ at k (outer-plus (toZ w32 limit) line)) × (length minus ≡ length minus₀) × (length plus ≡ length plus₀)
+Inv-loop line limit d n minus₀ plus₀ at k₀ minus plus k =
+    (k ≤ n) × (minus ≡ overwrite minus₀ at k (outer-minus (toZ w32 limit) d line)) × (plus ≡ overwrite plus₀ at k (outer-plus (toZ w32 limit) d line)) × (length minus ≡ length minus₀) × (length plus ≡ length plus₀)
 
 abbrev μ-loop : tie.MeasureT-loop
-μ-loop line limit n minus₀ plus₀ at k₀ minus plus k = n - k
+μ-loop line limit d n minus₀ plus₀ at k₀ minus plus k = n - k
 
 -- what is laid down, with the limit as the machine reads it
 abbrev Minus : tie.Start Inv-loop μ-loop → ℕ → ℤ
-Minus s = let a = s .args in outer-minus (toZ w32 (ofZ w32 (a .limit))) (now (a .line))
+Minus s = let a = s .args in outer-minus (toZ w32 (ofZ w32 (a .limit))) (a .d) (now (a .line))
 
 abbrev Plus : tie.Start Inv-loop μ-loop → ℕ → ℤ
-Plus s = let a = s .args in outer-plus (toZ w32 (ofZ w32 (a .limit))) (now (a .line))
+Plus s = let a = s .args in outer-plus (toZ w32 (ofZ w32 (a .limit))) (a .d) (now (a .line))
 
 -- both parts are small
 small : (c : tie.After-outer-low Inv-loop μ-loop) → (natAbs (toZ w32 (ofZ w32 (c .before .outer-high .result))) ≤ 536870912) × (natAbs (toZ w32 (ofZ w32 (c .outer-low .result))) ≤ 536870912)
@@ -75,11 +75,11 @@ slice-set-from-plus c = omega arith
 add-plus-2 : tie.Need-add-plus-2 Inv-loop μ-loop
 add-plus-2 c = let q = small c in fits (search bounds depth 14) tt
 
-add-t13 : tie.Need-add-t13 Inv-loop μ-loop
-add-t13 c = omega arith
+add-t14 : tie.Need-add-t14 Inv-loop μ-loop
+add-t14 c = omega arith
 
-mul-t12 : tie.Need-mul-t12 Inv-loop μ-loop
-mul-t12 c = omega arith
+mul-t13 : tie.Need-mul-t13 Inv-loop μ-loop
+mul-t13 c = omega arith
 
 slice-set-from-plus-2 : tie.Need-slice-set-from-plus-2 Inv-loop μ-loop
 slice-set-from-plus-2 c = omega arith
@@ -115,8 +115,8 @@ returns c =
     let l = c .before in
     let s = l .before in
     let all : l .loop .k ≡ s .args .n = omega arith in (
-      l .loop .inv .1 ∙ (λ i. overwrite (now (s .args .minus)) (s .args .at) (all i) (outer-minus (back (s .fits .limit) i) (now (s .args .line)))),
-      l .loop .inv .2 ∙ (λ i. overwrite (now (s .args .plus)) (s .args .at) (all i) (outer-plus (back (s .fits .limit) i) (now (s .args .line)))),
+      l .loop .inv .1 ∙ (λ i. overwrite (now (s .args .minus)) (s .args .at) (all i) (outer-minus (back (s .fits .limit) i) (s .args .d) (now (s .args .line)))),
+      l .loop .inv .2 ∙ (λ i. overwrite (now (s .args .plus)) (s .args .at) (all i) (outer-plus (back (s .fits .limit) i) (s .args .d) (now (s .args .line)))),
     )
 
 pub outer-lines-spec : {M : Type 1} → statement M
@@ -133,8 +133,8 @@ outer-lines-spec =
     mul-plus
     slice-set-from-plus
     add-plus-2
-    add-t13
-    mul-t12
+    add-t14
+    mul-t13
     slice-set-from-plus-2
     add-k
     loop-less

@@ -1,24 +1,25 @@
 -- `details::outer_low` meets its contract: the low split filter, and what of its value lies outside.
 -- Assumes nothing.
 use mathlib.Core.Path.{_≡_, sym, _∙_, subst}
+use Prim.Native.Nat.{_*_}
 use native.Mathlib.Omega.{arith}
 use lib.Dec.{lit<}
 use denote.Ref.{now}
 use mir.Syntax.{w32}
 use mir.Facts.{toZ-ofZ as back}
-use Rattle.integers.proofs.Bounds.{fits, read-is, read-bound}
+use borrow.Author.Needs.{needs}
+use Rattle.integers.proofs.Bounds.{read-is, read-bound}
 use Rattle.filters.specs.Bank.{Distance, low-split}
 use Rattle.filters.proofs.Ranges.{gain}
 use Rattle.lines.specs.Lines.{three}
 use Rattle.projection.specs.Fast.{excess}
 use Rattle.details.specs.Details.{outer}
 use Rattle.details.proofs.Details.{triple-small, triple-read, triple-range}
-use borrow.Author.Needs.{needs}
 use Rattle.details.proofs.outer_low.Statement.{statement}
 use Rattle.details.proofs.outer_low.Tie as tie
 
 -- the filter's value
-value-is : (c : tie.After-low-split) → let s = c .before .before .before .before in c .low-split .result ≡ three low-split (now (s .args .line)) 0 1 2 (s .args .k)
+value-is : (c : tie.After-low-split) → let s = c .before .before .before .before in c .low-split .result ≡ three low-split (now (s .args .line)) 0 (s .args .d) (2 * s .args .d) (s .args .k)
 value-is c = let s = c .before .before .before .before in c .low-split .ensures ∙ triple-read low-split (s .pre .1) (s .args .k) (s .pre .2) (lit< tt)
 
 mul-low-split : tie.Need-mul-low-split
@@ -36,11 +37,14 @@ mul-low-split-2 c = search needs
 shared-slice-copy-out-low-split-2 : tie.Need-shared-slice-copy-out-low-split-2
 shared-slice-copy-out-low-split-2 c = search needs
 
+mul-low-split-3 : tie.Need-mul-low-split-3
+mul-low-split-3 c = search needs
+
 add-low-split-2 : tie.Need-add-low-split-2
 add-low-split-2 c = search needs
 
-mul-low-split-3 : tie.Need-mul-low-split-3
-mul-low-split-3 c = search needs
+mul-low-split-4 : tie.Need-mul-low-split-4
+mul-low-split-4 c = search needs
 
 shared-slice-copy-out-low-split-3 : tie.Need-shared-slice-copy-out-low-split-3
 shared-slice-copy-out-low-split-3 c = search needs
@@ -73,8 +77,9 @@ outer-low-spec =
     add-low-split
     mul-low-split-2
     shared-slice-copy-out-low-split-2
-    add-low-split-2
     mul-low-split-3
+    add-low-split-2
+    mul-low-split-4
     shared-slice-copy-out-low-split-3
     low-split-requires
     excess-requires

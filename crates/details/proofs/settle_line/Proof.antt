@@ -18,7 +18,7 @@ use Rattle.integers.proofs.Bounds.{fits, read-is, read-bound, abs-read}
 use Rattle.planes.specs.Lists.{value}
 use Rattle.lines.proofs.Lines.{read-value}
 use Rattle.details.specs.Details.{crossed, settled}
-use Rattle.details.proofs.Details.{crossing-range}
+use Rattle.details.proofs.Details.{crossing-range, crossing-wider}
 use Rattle.details.proofs.settle_line.Statement.{statement}
 use Rattle.details.proofs.settle_line.Tie as tie
 
@@ -45,7 +45,7 @@ loop-holds c = let a = c .args in (omega arith, overwrite-none (now (a .own)) (a
 crossed-at-requires : tie.Need-crossed-at-requires Inv-loop μ-loop
 crossed-at-requires c κs =
     let s = c .before .before in
-    (s .pre .1, omega arith)
+    (crossing-wider (omega arith) (s .pre .1), omega arith)
 
 add-settle : tie.Need-add-settle Inv-loop μ-loop
 add-settle c = omega arith

@@ -90,7 +90,7 @@ high-join-requires : tie.Need-high-join-requires Inv-loop μ-loop
 high-join-requires c κs =
     let t = turn c in
     let l = t .before in
-    five-small high-join (l .before .pre .0) (l .loop .i) (t .loop-test .taken) 134217728 (omega arith)
+    five-small high-join (l .before .pre .0) (l .loop .i) (t .loop-test .taken) _ (omega arith)
 
 add-out : tie.Need-add-out Inv-loop μ-loop
 add-out c = omega arith

@@ -1,6 +1,6 @@
 -- `lines::join_along` meets its contract: both lines are padded, and then the filters go along them.
 -- Assumes nothing.
-use mathlib.Core.Path.{_∙_}
+use mathlib.Core.Path.{refl, _∙_}
 use Prim.Native.Nat.{_+_, _≤_}
 use native.Mathlib.Omega.{arith}
 use lib.IntN.{ℤ, _+ℤ_}
@@ -10,7 +10,7 @@ use borrow.Author.Needs.{needs}
 use Rattle.integers.proofs.Lists.{overwrite-cong}
 use Rattle.filters.specs.Bank.{low-join, high-join}
 use Rattle.lines.specs.Lines.{joined}
-use Rattle.lines.proofs.Lines.{five-runs, five-laid}
+use Rattle.lines.proofs.Lines.{five-runs, five-along}
 use Rattle.lines.proofs.join_along.Statement.{statement}
 use Rattle.lines.proofs.join_along.Tie as tie
 
@@ -30,8 +30,8 @@ join-lines-requires : tie.Need-join-lines-requires
 join-lines-requires c κs =
     let s = c .before .before .before .before .before .before .before .before .before in
     let p = s .pre .0 in
-    let runs-low = five-runs (p .0) (now (s .args .low)) (fit-low s) (c .before .before .before .before .before .before .before .pad-line .ensures) (p .3) in
-    let runs-high = five-runs (p .0) (now (s .args .high)) (fit-high s) (c .before .before .before .before .pad-line2 .ensures) (p .5) in
+    let runs-low = five-runs 1 (p .0) refl (now (s .args .low)) (fit-low s) (c .before .before .before .before .before .before .before .pad-line .ensures) (p .3) in
+    let runs-high = five-runs 1 (p .0) refl (now (s .args .high)) (fit-high s) (c .before .before .before .before .pad-line2 .ensures) (p .5) in
     search needs
 
 same-length : tie.Need-same-length
@@ -51,7 +51,7 @@ returns c =
     let p = s .pre .0 in
     let e = c .before .before .before .before .before .before .before .before .before .pad-line .ensures in
     let f = c .before .before .before .before .before .before .pad-line2 .ensures in
-    ((e, f), c .before .join-lines .ensures ∙ overwrite-cong (now (a .out)) (a .at) (a .n) _ _ (λ k i. λ m. five-laid (p .0) (now (a .low)) (fit-low s) e low-join k i m +ℤ five-laid (p .0) (now (a .high)) (fit-high s) f high-join k i m))
+    ((e, f), c .before .join-lines .ensures ∙ overwrite-cong (now (a .out)) (a .at) (a .n) _ _ (λ k i. λ m. five-along 1 (p .0) refl (now (a .low)) (fit-low s) e low-join k i m +ℤ five-along 1 (p .0) refl (now (a .high)) (fit-high s) f high-join k i m))
 
 pub join-along-spec : {M : Type 1} → statement M
 join-along-spec =

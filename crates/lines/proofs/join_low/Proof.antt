@@ -84,7 +84,7 @@ low-join-requires : tie.Need-low-join-requires Inv-loop μ-loop
 low-join-requires c κs =
     let t = turn c in
     let l = t .before in
-    five-small low-join (l .before .pre .0) (l .loop .i) (t .loop-test .taken) 134217728 (omega arith)
+    five-small low-join (l .before .pre .0) (l .loop .i) (t .loop-test .taken) _ (omega arith)
 
 add-t29 : tie.Need-add-t29 Inv-loop μ-loop
 add-t29 c = omega arith

@@ -1,13 +1,14 @@
 -- `lines::split_along` meets its contract: the line is padded, and then both filters go along it.
 -- Assumes nothing.
-use mathlib.Core.Path.{refl}
+use mathlib.Core.Path.{refl, _∙_}
 use Prim.Native.Nat.{_+_, _≤_}
 use native.Mathlib.Omega.{arith}
 use lib.ListN.{length}
 use denote.Ref.{now}
 use borrow.Author.Needs.{needs}
+use Rattle.integers.proofs.Lists.{overwrite-cong}
 use Rattle.filters.specs.Bank.{low-split, high-split}
-use Rattle.lines.proofs.Lines.{three-runs, split-laid}
+use Rattle.lines.proofs.Lines.{three-runs, three-along}
 use Rattle.lines.proofs.split_along.Statement.{statement}
 use Rattle.lines.proofs.split_along.Tie as tie
 
@@ -20,7 +21,7 @@ fit s = omega arith
 split-line-requires : tie.Need-split-line-requires
 split-line-requires c κs =
     let s = c .before .before .before .before .before .before in
-    let runs = three-runs (s .pre .0 .0) (now (s .args .line)) (fit s) (c .before .before .before .before .pad-line .ensures) (s .pre .0 .3) in
+    let runs = three-runs 1 (s .pre .0 .0) (now (s .args .line)) (fit s) (c .before .before .before .before .pad-line .ensures) (s .pre .0 .3) in
     search needs
 
 same-length : tie.Need-same-length
@@ -40,8 +41,8 @@ returns c =
     let e = c .before .before .before .before .before .before .before .pad-line .ensures in (
       e,
       (
-        split-laid (s .pre .0 .0) (now (a .line)) (fit s) e low-split refl (now (a .low)) (a .at) (c .before .before .split-line .ensures .0),
-        split-laid (s .pre .0 .0) (now (a .line)) (fit s) e high-split refl (now (a .high)) (a .at) (c .before .before .split-line .ensures .1),
+        c .before .before .split-line .ensures .0 ∙ overwrite-cong (now (a .low)) (a .at) (a .n) _ _ (three-along 1 (s .pre .0 .0) (now (a .line)) (fit s) e low-split refl),
+        c .before .before .split-line .ensures .1 ∙ overwrite-cong (now (a .high)) (a .at) (a .n) _ _ (three-along 1 (s .pre .0 .0) (now (a .line)) (fit s) e high-split refl),
       ),
     )
 

@@ -67,7 +67,7 @@ low-split-requires : tie.Need-low-split-requires Inv-loop μ-loop
 low-split-requires c κs =
     let l = c .before .before .before .before in
     let r = l .before .pre .0 in
-    let small = three-small low-split (r .0) (r .1) (r .2) (l .loop .i) (c .before .before .before .loop-test .taken) 134217728 (omega arith) in
+    let small = three-small low-split (r .0) (r .1) (r .2) (l .loop .i) (c .before .before .before .loop-test .taken) 178956970 (omega arith) in
     search needs
 
 add-high : tie.Need-add-high Inv-loop μ-loop
@@ -83,7 +83,7 @@ high-split-requires : tie.Need-high-split-requires Inv-loop μ-loop
 high-split-requires c κs =
     let l = c .before .before .before .before .before in
     let r = l .before .pre .0 in
-    let small = three-small high-split (r .0) (r .1) (r .2) (l .loop .i) (c .before .before .before .before .loop-test .taken) 134217728 (omega arith) in
+    let small = three-small high-split (r .0) (r .1) (r .2) (l .loop .i) (c .before .before .before .before .loop-test .taken) 178956970 (omega arith) in
     search needs
 
 add-t15 : tie.Need-add-t15 Inv-loop μ-loop
