@@ -30,7 +30,7 @@ unfolding join-list listing
 list-within w h given room j k b =
     let i : k < w * h = omega (arith, length-listing w h sums, b) in
     subst (λ (x : ℤ). natAbs x ≤ sum-within) (sym (getD-tabulate (w * h) (λ n. sums (n / w) (n % w)) k (pos 0) i))
-    (join-range 1 w h to-join (j .sizes .width-from) (j .sizes .height-from) (bands-of w given)
+    (join-range 1 w h (j .sizes .width-from) (j .sizes .height-from) (bands-of w given)
     (plane-within to-join (given .band1) w h (j .plane1)) (plane-within to-join (given .band2) w h (j .plane2))
     (plane-within to-join (given .band3) w h (j .plane3)) (plane-within to-join (given .band4) w h (j .plane4))
     (k / w) (k % w) (row-inside w h k i) (column-inside w h k i))

@@ -1,4 +1,5 @@
--- How large the bank's numbers grow, over a ceiling m: split within 16·m, join within 576·m. Assumes nothing.
+-- How large the bank's numbers grow: split within 16·m, over a ceiling m; join within 144 times the sum of the four bands' ceilings.
+-- Assumes nothing.
 use mathlib.Core.Path.{sym, subst}
 use Prim.Native.Nat.{ℕ, _+_, _*_, _≤_, _<_}
 use native.Mathlib.Omega.{arith}
@@ -46,7 +47,7 @@ abbrev pub Within : ℕ → ℕ → ℕ → (ℕ → ℕ → ℤ) → Type 0
 Within m w h p = (r c : ℕ) → r < h → c < w → natAbs (p r c) ≤ m
 
 module _ (d w h m : ℕ) (wide : 0 < w) (high : 0 < h) where
-  filtered-range : (tr tc : Taps) (p : ℕ → ℕ → ℤ) → Within m w h p → Within (gain tc * (gain tr * m)) w h (filtered tr tc d w h p)
+  pub filtered-range : (tr tc : Taps) (p : ℕ → ℕ → ℤ) → Within m w h p → Within (gain tc * (gain tr * m)) w h (filtered tr tc d w h p)
   unfolding filtered along-rows along-columns
   filtered-range tr tc p b r c hr hc =
       along-range tc d h (gain tr * m) (λ i. along tr d w (p i) c) high (λ i hi. along-range tr d w m (p i) wide (λ j hj. b i j hi hj) c) r
@@ -61,26 +62,27 @@ module _ (d w h m : ℕ) (wide : 0 < w) (high : 0 < h) where
     le-trans (filtered-range high-split high-split p b r c hr hc) (omega arith),
   )
 
-  pub join-range : (b : ℕ → ℕ → Bands ℤ)
-      → Within m w h (λ r c. b r c .band1) → Within m w h (λ r c. b r c .band2) → Within m w h (λ r c. b r c .band3) → Within m w h (λ r c. b r c .band4)
-      → Within (576 * m) w h (join d w h b)
-  unfolding join gain low-join high-join
-  join-range b b₁ b₂ b₃ b₄ r c hr hc =
-      sums _ _ _ _ _ _ _ (abs-add (A +ℤ B +ℤ C) D) (abs-add (A +ℤ B) C) (abs-add A B)
-      (filtered-range low-join low-join _ b₁ r c hr hc) (filtered-range high-join low-join _ b₂ r c hr hc)
-      (filtered-range low-join high-join _ b₃ r c hr hc) (filtered-range high-join high-join _ b₄ r c hr hc)
-    where
-      A : ℤ
-      A = filtered low-join low-join d w h (λ i j. b i j .band1) r c
+-- each band has a ceiling of its own, and counts 144 times
+pub join-range : (d w h : ℕ) → 0 < w → 0 < h → {m₁ m₂ m₃ m₄ : ℕ} (b : ℕ → ℕ → Bands ℤ)
+    → Within m₁ w h (λ r c. b r c .band1) → Within m₂ w h (λ r c. b r c .band2) → Within m₃ w h (λ r c. b r c .band3) → Within m₄ w h (λ r c. b r c .band4)
+    → Within (144 * (m₁ + m₂ + m₃ + m₄)) w h (join d w h b)
+unfolding join gain low-join high-join
+join-range d w h wide high {m₁} {m₂} {m₃} {m₄} b b₁ b₂ b₃ b₄ r c hr hc =
+    sums _ _ _ _ _ _ _ (abs-add (A +ℤ B +ℤ C) D) (abs-add (A +ℤ B) C) (abs-add A B)
+    (filtered-range d w h m₁ wide high low-join low-join _ b₁ r c hr hc) (filtered-range d w h m₂ wide high high-join low-join _ b₂ r c hr hc)
+    (filtered-range d w h m₃ wide high low-join high-join _ b₃ r c hr hc) (filtered-range d w h m₄ wide high high-join high-join _ b₄ r c hr hc)
+  where
+    A : ℤ
+    A = filtered low-join low-join d w h (λ i j. b i j .band1) r c
 
-      B : ℤ
-      B = filtered high-join low-join d w h (λ i j. b i j .band2) r c
+    B : ℤ
+    B = filtered high-join low-join d w h (λ i j. b i j .band2) r c
 
-      C : ℤ
-      C = filtered low-join high-join d w h (λ i j. b i j .band3) r c
+    C : ℤ
+    C = filtered low-join high-join d w h (λ i j. b i j .band3) r c
 
-      D : ℤ
-      D = filtered high-join high-join d w h (λ i j. b i j .band4) r c
+    D : ℤ
+    D = filtered high-join high-join d w h (λ i j. b i j .band4) r c
 
-      sums : (s u v a b c e : ℕ) → s ≤ u + e → u ≤ v + c → v ≤ a + b → a ≤ 12 * (12 * m) → b ≤ 12 * (12 * m) → c ≤ 12 * (12 * m) → e ≤ 12 * (12 * m) → s ≤ 576 * m
-      sums s u v a b c e h₁ h₂ h₃ h₄ h₅ h₆ h₇ = omega arith
+    sums : (s u v a b c e : ℕ) → s ≤ u + e → u ≤ v + c → v ≤ a + b → a ≤ 12 * (12 * m₁) → b ≤ 12 * (12 * m₂) → c ≤ 12 * (12 * m₃) → e ≤ 12 * (12 * m₄) → s ≤ 144 * (m₁ + m₂ + m₃ + m₄)
+    sums s u v a b c e h₁ h₂ h₃ h₄ h₅ h₆ h₇ = omega arith

@@ -63,6 +63,13 @@ pointwise τ υ f e = record {
   mirror = λ w h l p r c hr hc. refl;
 }
 
+-- an operation on each of two planes; a place has a value of both
+pub of-both : {A B : Type 0} {τ : A → A} {υ : B → B} {F : Operation A B} → Commutes τ υ F
+    → Commutes {A = A × A} {B = B × B} (λ x. (τ (x .0), τ (x .1))) (λ x. (υ (x .0), υ (x .1))) (λ w h l p r c. (F w h l (λ i j. p i j .0) r c, F w h l (λ i j. p i j .1) r c))
+of-both {A} {τ = τ} f =
+    paired (composed (pointwise {A = A × A} (λ x. (τ (x .0), τ (x .1))) τ (λ x. x .0) (λ x. refl)) f)
+    (composed (pointwise {A = A × A} (λ x. (τ (x .0), τ (x .1))) τ (λ x. x .1) (λ x. refl)) f)
+
 -- an operation that is equal at every place
 pub commutes-by : {A B : Type 0} {τ : A → A} {υ : B → B} {F G : Operation A B}
     → ((w h l : ℕ) (p : ℕ → ℕ → A) (r c : ℕ) → F w h l p r c ≡ G w h l p r c) → Commutes τ υ F → Commutes τ υ G
