@@ -9,13 +9,13 @@ use Rattle.integers.proofs.Products.{minus-one-*ℤ}
 use Rattle.integers.proofs.Linear.{linear, x₀, x₁, x₂, _⊕_, _⊖_}
 use Rattle.integers.proofs.Clamping.{clamp-moved}
 use Rattle.planes.specs.Planes.{Agree}
-use Rattle.turns.proofs.Commuting.{Commutes, same, composed, paired, pointwise}
+use Rattle.turns.proofs.Commuting.{Commutes, same, composed, pointwise, of-both}
 use Rattle.filters.specs.Bank.{Bands, split, join, rescaled}
 use Rattle.filters.proofs.Linearity.{add-bands, times-bands, split-add, split-times, join-add, join-times}
 use Rattle.filters.proofs.Reconstruction.{reconstruct}
 use Rattle.filters.proofs.Turned.{exchange-bands, split-commutes, join-commutes}
 use Rattle.projection.specs.Projection.{held, hold-details, held-sum, projected}
-use Rattle.projection.specs.Fast.{excess, excess-details, difference}
+use Rattle.projection.specs.Fast.{excess, excess-details, difference, lost-sum}
 
 -- ---- what is held, and what is outside
 -- holding a value is taking away what its difference to the guide has outside the limit
@@ -64,31 +64,37 @@ module _ (d w h : ℕ) where
       (λ m. join d w h (λ i j. minus-bands-is (a i j) (b i j) m) r c) ∙ join-add d w h a (λ i j. times-bands (negsuc 0) (b i j)) r c
       ∙ ap (λ z. join d w h a r c +ℤ z) (join-times d w h (negsuc 0) b r c ∙ minus-one-*ℤ (join d w h b r c))
 
--- ---- the joined sum of the held bands is 1,024 times the plane, less the joined sum of what the bands lose
-pub held-sum-fast : (w h : ℕ) → 0 < w → 0 < h → (limit : ℤ) (d : ℕ) (guide own : ℕ → ℕ → ℤ) (r c : ℕ) → r < h → c < w
-    → held-sum limit d w h guide own r c ≡ pos 1024 *ℤ own r c -ℤ join d w h (λ i j. excess-details limit (split d w h (difference own guide) i j)) r c
+-- ---- the joined sum of the held bands is 1,024 times the plane, less what is lost
+pub held-sum-fast : (w h : ℕ) → 0 < w → 0 < h → (limit : ℤ) (d : ℕ) (guide own : ℕ → ℕ → ℤ)
+    → Agree w h (held-sum limit d w h guide own) (λ r c. pos 1024 *ℤ own r c -ℤ lost-sum limit d w h (difference own guide) r c)
 unfolding held-sum
 held-sum-fast w h wide tall limit d guide own r c hr hc =
     (λ m. join d w h (λ i j. hold-excess limit (split d w h guide i j) (split d w h own i j) m) r c)
     ∙ (λ m. join d w h (λ i j. minus-bands (split d w h own i j) (excess-details limit (sym (split-difference d w h own guide i j) m))) r c)
     ∙ join-difference d w h (split d w h own) (λ i j. excess-details limit (split d w h (difference own guide) i j)) r c
-    ∙ ap (λ z. z -ℤ join d w h (λ i j. excess-details limit (split d w h (difference own guide) i j)) r c) (reconstruct w h wide tall d own r c hr hc)
+    ∙ ap (λ z. z -ℤ lost-sum limit d w h (difference own guide) r c) (reconstruct w h wide tall d own r c hr hc)
 
 -- ---- turns; a place has its guide's value, and its own
+-- both planes split, and the details held
+pub held-bands-commute : (limit : ℤ) (d : ℕ)
+    → Commutes {A = ℤ × ℤ} same exchange-bands (λ w h l p r c. hold-details limit (split d w h (λ i j. p i j .0) r c) (split d w h (λ i j. p i j .1) r c))
+held-bands-commute limit d =
+    composed (of-both (split-commutes d))
+    (pointwise (λ (x : Bands ℤ × Bands ℤ). (exchange-bands (x .0), exchange-bands (x .1))) exchange-bands (λ x. hold-details limit (x .0) (x .1)) (λ x. unfold hold-details exchange-bands in refl))
+
 -- the joined sum sees only what is inside, and commutes with every turn
 pub held-sum-commutes : (limit : ℤ) (d : ℕ) → Commutes {A = ℤ × ℤ} {B = ℤ} same same (λ w h l p. held-sum limit d w h (λ i j. p i j .0) (λ i j. p i j .1))
 unfolding held-sum
-held-sum-commutes limit d =
-    composed
-    (composed
-    (paired (composed (pointwise {A = ℤ × ℤ} same same (λ x. x .0) (λ x. refl)) (split-commutes d)) (composed (pointwise {A = ℤ × ℤ} same same (λ x. x .1) (λ x. refl)) (split-commutes d)))
-    (pointwise (λ (x : Bands ℤ × Bands ℤ). (exchange-bands (x .0), exchange-bands (x .1))) exchange-bands (λ x. hold-details limit (x .0) (x .1)) (λ x. unfold hold-details exchange-bands in refl)))
-    (join-commutes d)
+held-sum-commutes limit d = composed (held-bands-commute limit d) (join-commutes d)
 
--- so does the projection
+-- so does bringing back, whatever the divisor
+pub rescaled-commutes : (d : ℕ) (least most : ℤ) → Commutes same same (λ w h l p r c. rescaled d least most (p r c))
+rescaled-commutes d least most = pointwise same same (rescaled d least most) (λ z. refl)
+
+-- and so the projection
 pub projected-commutes : (limit least most : ℤ) → Commutes {A = ℤ × ℤ} {B = ℤ} same same (λ w h l p. projected limit least most w h (λ i j. p i j .0) (λ i j. p i j .1))
 unfolding projected
-projected-commutes limit least most = composed (held-sum-commutes limit 1) (pointwise same same (rescaled 1024 least most) (λ z. refl))
+projected-commutes limit least most = composed (held-sum-commutes limit 1) (rescaled-commutes _ least most)
 
 -- guides and planes that agree inside have projections that agree inside
 pub projected-agrees : (limit least most : ℤ) (w h : ℕ) (guide guide' own own' : ℕ → ℕ → ℤ) → Agree w h guide guide' → Agree w h own own'

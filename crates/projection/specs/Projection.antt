@@ -1,10 +1,12 @@
 -- Document 01, "Rounds": the bands of a plane, its details held within a limit of another plane's, joined and brought back; "Green
--- update" is the same with the limit 0 (law `mixed-projected` of crate `update`). The other plane is called the guide. Assumes nothing.
+-- update" is the same with the limit 0 (law `mixed-projected` of crate `update`). Document 02, "Second level of the bank": the same with
+-- band 1 split again. The other plane is called the guide. Assumes nothing.
 use Prim.Native.Nat.{ℕ}
-use lib.IntN.{ℤ, _+ℤ_, _-ℤ_}
+use lib.IntN.{ℤ, pos, _+ℤ_, _-ℤ_, _*ℤ_}
 use Rattle.integers.specs.Numbers.{clamp}
 use Rattle.filters.specs.Bank.{Bands, split, join, rescaled}
 
+-- ---- one level
 -- a value held within the guide's value ± limit
 unfoldable pub held : ℤ → ℤ → ℤ → ℤ
 held limit guide x = clamp (guide -ℤ limit) (guide +ℤ limit) x
@@ -25,3 +27,28 @@ held-sum limit d w h guide own = join d w h (λ i j. hold-details limit (split d
 -- brought back, with the clip's ends as numbers
 unfoldable pub projected : ℤ → ℤ → ℤ → ℕ → ℕ → (ℕ → ℕ → ℤ) → (ℕ → ℕ → ℤ) → ℕ → ℕ → ℤ
 projected limit least most w h guide own r c = rescaled 1024 least most (held-sum limit 1 w h guide own r c)
+
+-- ---- two levels
+-- a plane's band 1; it is as large as the plane, and reflected at the same border
+unfoldable pub low-band : ℕ → ℕ → (ℕ → ℕ → ℤ) → ℕ → ℕ → ℤ
+low-band w h plane r c = split 1 w h plane r c .band1
+
+-- The first level's bands over the second level's sum, which stands in band 1's place. It is 1,024 times as large as band 1, so "the first
+-- level's details are taken 1,024 times before the last join".
+unfoldable pub over-level : ℤ → Bands ℤ → Bands ℤ
+over-level sum first = record {
+  band1 = sum;
+  band2 = pos 1024 *ℤ first .band2;
+  band3 = pos 1024 *ℤ first .band3;
+  band4 = pos 1024 *ℤ first .band4;
+}
+
+-- "Band 1 is split again with the same taps spread to every second place", held "in its three new details, and joined"; then the last
+-- join. Nothing is rounded before. Each level has a limit of its own: callers give 16·T, and 256·T for the second.
+unfoldable pub two-level-sum : ℤ → ℤ → ℕ → ℕ → (ℕ → ℕ → ℤ) → (ℕ → ℕ → ℤ) → ℕ → ℕ → ℤ
+two-level-sum limit second-limit w h guide own =
+    join 1 w h (λ i j. over-level (held-sum second-limit 2 w h (low-band w h guide) (low-band w h own) i j) (hold-details limit (split 1 w h guide i j) (split 1 w h own i j)))
+
+-- "the whole is rounded only there: (s + 524,288) whole-divided by 1,048,576, then clipped"
+unfoldable pub two-level-projected : ℤ → ℤ → ℤ → ℤ → ℕ → ℕ → (ℕ → ℕ → ℤ) → (ℕ → ℕ → ℤ) → ℕ → ℕ → ℤ
+two-level-projected limit second-limit least most w h guide own r c = rescaled 1048576 least most (two-level-sum limit second-limit w h guide own r c)
