@@ -1,5 +1,5 @@
 -- A round commutes with every turn, and so do n rounds. Assumes nothing.
-use mathlib.Core.Path.{_≡_, refl, sym, _∙_}
+use mathlib.Core.Path.{_≡_, refl, sym}
 use mathlib.Core.Bool.{Bool, true, false, cond, not, _&&_}
 use Prim.Native.Nat.{ℕ, zero, suc, _-_, _%_}
 use lib.Dec.{eqb}
@@ -13,7 +13,6 @@ use Rattle.questions.specs.declared.Settings.{Settings}
 use Rattle.turns.specs.Operations.{Operation}
 use Rattle.turns.specs.Pictures.{Picture, turned, _≈_}
 use Rattle.turns.proofs.Commuting.{Commutes, same, composed, paired, pointwise, by-parities, commutes-by, apply, apply-turned}
-use Rattle.projection.specs.Projection.{projected}
 use Rattle.projection.proofs.Projection.{projected-commutes}
 use Rattle.rounds.specs.Rounds.{Round, limit-of, put-observed, round, working-plane, rewritten, rounds}
 use Rattle.rounds.proofs.Repeated.{round-projected}
@@ -62,19 +61,23 @@ module _ (top : ℕ) (limit : ℤ) (k : Coloured) where
   abbrev pub round-operation : Operation (ℕ × ℕ × ℤ) ℤ
   round-operation w h l p = round (round-in w h l (λ i j. p i j .0) (λ i j. p i j .1)) (λ i j. p i j .2)
 
-  -- the projection on green, beside the mosaic
-  projected-of : Operation (ℕ × ℕ × ℤ) (ℕ × ℤ)
-  projected-of w h l p r c = (p r c .0, projected limit (pos 0) (pos top) w h (λ i j. pos (p i j .1)) (λ i j. p i j .2) r c)
-
-  pub round-commutes : Commutes same same round-operation
-  unfolding projected-of put-observed
-  round-commutes =
-      commutes-by {F = λ w h l p r c. cond (k .own (on-red-row l r) (on-red-column l c)) (pos (projected-of w h l p r c .0)) (projected-of w h l p r c .1)}
-      (λ w h l p r c. sym (round-projected (round-in w h l (λ i j. p i j .0) (λ i j. p i j .1)) (λ i j. p i j .2) r c ∙ (λ m. cond (k .is l r c m) (pos (p r c .0)) (projected-of w h l p r c .1))))
-      (composed {F = projected-of}
+  -- Any operation on green and the working plane that commutes with every turn still does with the observed samples put in after it.
+  pub observed-commutes : {F : Operation (ℤ × ℤ) ℤ} → Commutes same same F
+      → Commutes {A = ℕ × ℕ × ℤ} same same (λ w h l p. put-observed (round-in w h l (λ i j. p i j .0) (λ i j. p i j .1)) (F w h l (λ i j. (pos (p i j .1), p i j .2))))
+  unfolding put-observed
+  observed-commutes {F} f =
+      commutes-by {F = λ w h l p r c. cond (k .own (on-red-row l r) (on-red-column l c)) (pos (p r c .0)) (F w h l (λ i j. (pos (p i j .1), p i j .2)) r c)}
+      (λ w h l p r c. λ m. cond (sym (k .is l r c) m) (pos (p r c .0)) (F w h l (λ i j. (pos (p i j .1), p i j .2)) r c))
+      (composed
       (paired {B = ℕ} {C = ℤ} (pointwise {A = ℕ × ℕ × ℤ} same same (λ x. x .0) (λ x. refl))
-      (composed (pointwise {A = ℕ × ℕ × ℤ} {B = ℤ × ℤ} same same (λ x. (pos (x .1), x .2)) (λ x. refl)) (projected-commutes limit (pos 0) (pos top))))
+      (composed (pointwise {A = ℕ × ℕ × ℤ} {B = ℤ × ℤ} same same (λ x. (pos (x .1), x .2)) (λ x. refl)) f))
       (by-parities {A = ℕ × ℤ} same same (λ a b x. cond (k .own a b) (pos (x .0)) (x .1)) (λ a b x. λ m. cond (k .exchange a b m) (pos (x .0)) (x .1))))
+
+  -- so a round does, whose operation is the projection
+  pub round-commutes : Commutes same same round-operation
+  round-commutes =
+      commutes-by (λ w h l p r c. sym (round-projected (round-in w h l (λ i j. p i j .0) (λ i j. p i j .1)) (λ i j. p i j .2) r c))
+      (observed-commutes (projected-commutes limit (pos 0) (pos top)))
 
   -- n
   abbrev pub n-rounds : ℕ → Operation (ℕ × ℕ × ℤ) ℤ
