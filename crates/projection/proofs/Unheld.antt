@@ -19,7 +19,7 @@ use Rattle.filters.proofs.Linearity.{times-bands, join-times}
 use Rattle.filters.proofs.Ranges.{Within, split-range}
 use Rattle.filters.proofs.Reconstruction.{reconstruct}
 use Rattle.filters.proofs.Turned.{join-commutes}
-use Rattle.projection.specs.Projection.{hold-details, held-sum, projected, low-band, over-level, two-level-sum, two-level-projected}
+use Rattle.projection.specs.Projection.{hold-details, held-sum, projected, low-band, over-level, Limits, limits-of, two-level-sum, two-level-projected}
 use Rattle.projection.specs.Fast.{excess, excess-details, difference}
 use Rattle.projection.proofs.Projection.{minus-bands, hold-excess, split-difference}
 use Rattle.projection.proofs.Levels.{low-band-difference, low-band-range}
@@ -44,25 +44,25 @@ module _ (w h : ℕ) (wide : 0 < w) (high : 0 < h) (guide own : ℕ → ℕ → 
   unheld-projected limit least most u r c hr hc = back-whole (omega arith) (unheld-sum limit 1 u r c hr hc)
 
 -- ---- two levels
-module _ (w h : ℕ) (wide : 0 < w) (high : 0 < h) (guide own : ℕ → ℕ → ℤ) (limit second-limit : ℤ) (second : Unheld second-limit 2 w h (low-band w h guide) (low-band w h own)) where
+module _ (w h : ℕ) (wide : 0 < w) (high : 0 < h) (guide own : ℕ → ℕ → ℤ) (limits : Limits) (second : Unheld (limits .second) 2 w h (low-band w h guide) (low-band w h own)) where
   -- where the second has nothing to hold, the sum is one level's, 1,024 times
-  pub second-unheld-sum : Agree w h (two-level-sum limit second-limit w h guide own) (λ r c. pos 1024 *ℤ held-sum limit 1 w h guide own r c)
+  pub second-unheld-sum : Agree w h (two-level-sum limits w h guide own) (λ r c. pos 1024 *ℤ held-sum (limits .first) 1 w h guide own r c)
   unfolding two-level-sum held-sum
-  second-unheld-sum r c hr hc = join-commutes 1 .agrees w h 0 _ _ bands r c hr hc ∙ join-times 1 w h (pos 1024) (λ i j. hold-details limit (split 1 w h guide i j) (split 1 w h own i j)) r c
+  second-unheld-sum r c hr hc = join-commutes 1 .agrees w h 0 _ _ bands r c hr hc ∙ join-times 1 w h (pos 1024) (λ i j. hold-details (limits .first) (split 1 w h guide i j) (split 1 w h own i j)) r c
     where
-      bands : Agree w h (λ i j. over-level (held-sum second-limit 2 w h (low-band w h guide) (low-band w h own) i j) (hold-details limit (split 1 w h guide i j) (split 1 w h own i j)))
-          (λ i j. times-bands (pos 1024) (hold-details limit (split 1 w h guide i j) (split 1 w h own i j)))
+      bands : Agree w h (λ i j. over-level (held-sum (limits .second) 2 w h (low-band w h guide) (low-band w h own) i j) (hold-details (limits .first) (split 1 w h guide i j) (split 1 w h own i j)))
+          (λ i j. times-bands (pos 1024) (hold-details (limits .first) (split 1 w h guide i j) (split 1 w h own i j)))
       bands i j hi hj =
-          ap (λ z. over-level z (hold-details limit (split 1 w h guide i j) (split 1 w h own i j))) (unheld-sum w h wide high (low-band w h guide) (low-band w h own) second-limit 2 second i j hi hj)
+          ap (λ z. over-level z (hold-details (limits .first) (split 1 w h guide i j) (split 1 w h own i j))) (unheld-sum w h wide high (low-band w h guide) (low-band w h own) (limits .second) 2 second i j hi hj)
           ∙ (unfold over-level low-band hold-details in refl)
 
   -- and where the first has nothing either, the plane, 1,048,576 times
-  pub unheld-two-sum : Unheld limit 1 w h guide own → Agree w h (two-level-sum limit second-limit w h guide own) (λ r c. pos 1048576 *ℤ own r c)
+  pub unheld-two-sum : Unheld (limits .first) 1 w h guide own → Agree w h (two-level-sum limits w h guide own) (λ r c. pos 1048576 *ℤ own r c)
   unheld-two-sum u r c hr hc =
-      second-unheld-sum r c hr hc ∙ ap (λ z. pos 1024 *ℤ z) (unheld-sum w h wide high guide own limit 1 u r c hr hc) ∙ sym (*ℤ-assoc (pos 1024) (pos 1024) (own r c))
+      second-unheld-sum r c hr hc ∙ ap (λ z. pos 1024 *ℤ z) (unheld-sum w h wide high guide own (limits .first) 1 u r c hr hc) ∙ sym (*ℤ-assoc (pos 1024) (pos 1024) (own r c))
 
-  pub unheld-two-projected : Unheld limit 1 w h guide own → (least most : ℤ)
-      → (r c : ℕ) → r < h → c < w → least ≤ℤ own r c → own r c ≤ℤ most → two-level-projected limit second-limit least most w h guide own r c ≡ own r c
+  pub unheld-two-projected : Unheld (limits .first) 1 w h guide own → (least most : ℤ)
+      → (r c : ℕ) → r < h → c < w → least ≤ℤ own r c → own r c ≤ℤ most → two-level-projected limits least most w h guide own r c ≡ own r c
   unfolding two-level-projected
   unheld-two-projected u least most r c hr hc = back-whole (omega arith) (unheld-two-sum u r c hr hc)
 
@@ -110,9 +110,10 @@ unheld-near w h wide high guide own m d b =
 
 -- so a plane within T of its guide comes back: 256·T is 16 times 16·T
 pub near-two-projected : (w h : ℕ) → 0 < w → 0 < h → (guide own : ℕ → ℕ → ℤ) (threshold : ℕ) → Within threshold w h (difference own guide) → (least most : ℤ)
-    → (r c : ℕ) → r < h → c < w → least ≤ℤ own r c → own r c ≤ℤ most → two-level-projected (pos (16 * threshold)) (pos (256 * threshold)) least most w h guide own r c ≡ own r c
+    → (r c : ℕ) → r < h → c < w → least ≤ℤ own r c → own r c ≤ℤ most → two-level-projected (limits-of threshold) least most w h guide own r c ≡ own r c
+unfolding limits-of
 near-two-projected w h wide high guide own threshold b =
-    unheld-two-projected w h wide high guide own (pos (16 * threshold)) (pos (256 * threshold))
+    unheld-two-projected w h wide high guide own (limits-of threshold)
     (subst (λ (n : ℕ). Unheld (pos n) 2 w h (low-band w h guide) (low-band w h own)) twice
     (unheld-near w h wide high (low-band w h guide) (low-band w h own) (16 * threshold) 2
     (subst (Within (16 * threshold) w h) (sym (low-band-difference w h own guide)) (low-band-range w h wide high threshold (difference own guide) b))))

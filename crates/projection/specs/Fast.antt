@@ -5,7 +5,7 @@ use lib.IntN.{ℤ, pos, negℤ, _+ℤ_, _-ℤ_}
 use Rattle.integers.specs.Numbers.{clamp}
 use Rattle.border.specs.Border.{reflect}
 use Rattle.filters.specs.Bank.{Taps, weighted, along, Bands, split, join, low-split, high-split, low-join, high-join}
-use Rattle.projection.specs.Projection.{low-band, over-level}
+use Rattle.projection.specs.Projection.{low-band, over-level, Limits}
 
 -- the part of z outside −limit..limit
 unfoldable pub excess : ℤ → ℤ → ℤ
@@ -29,9 +29,9 @@ abbrev pub lost-sum : ℤ → ℕ → ℕ → ℕ → (ℕ → ℕ → ℤ) → 
 lost-sum limit d w h apart = join d w h (λ i j. excess-details limit (split d w h apart i j))
 
 -- and at two
-unfoldable pub two-level-lost : ℤ → ℤ → ℕ → ℕ → (ℕ → ℕ → ℤ) → ℕ → ℕ → ℤ
-two-level-lost limit second-limit w h apart =
-    join 1 w h (λ i j. over-level (lost-sum second-limit 2 w h (low-band w h apart) i j) (excess-details limit (split 1 w h apart i j)))
+unfoldable pub two-level-lost : Limits → ℕ → ℕ → (ℕ → ℕ → ℤ) → ℕ → ℕ → ℤ
+two-level-lost limits w h apart =
+    join 1 w h (λ i j. over-level (lost-sum (limits .second) 2 w h (low-band w h apart) i j) (excess-details (limits .first) (split 1 w h apart i j)))
 
 -- ---- row by row: along a line of n, reflected at its border, with taps d places apart
 -- what of a split filter's value lies outside the limit

@@ -1,7 +1,7 @@
 -- Document 01, "Rounds": the bands of a plane, its details held within a limit of another plane's, joined and brought back; "Green
 -- update" is the same with the limit 0 (law `mixed-projected` of crate `update`). Document 02, "Second level of the bank": the same with
 -- band 1 split again. The other plane is called the guide. Assumes nothing.
-use Prim.Native.Nat.{ℕ}
+use Prim.Native.Nat.{ℕ, _*_}
 use lib.IntN.{ℤ, pos, _+ℤ_, _-ℤ_, _*ℤ_}
 use Rattle.integers.specs.Numbers.{clamp}
 use Rattle.filters.specs.Bank.{Bands, split, join, rescaled}
@@ -43,12 +43,21 @@ over-level sum first = record {
   band4 = pos 1024 *ℤ first .band4;
 }
 
+-- how far a detail of each level may be from the guide's
+pub record Limits : Type 0 where
+  pub first : ℤ
+  pub second : ℤ
+
+-- for threshold T: 16·T, and 256·T
+unfoldable pub limits-of : ℕ → Limits
+limits-of threshold = record { first = pos (16 * threshold); second = pos (256 * threshold) }
+
 -- "Band 1 is split again with the same taps spread to every second place", held "in its three new details, and joined"; then the last
--- join. Nothing is rounded before. Each level has a limit of its own: callers give 16·T, and 256·T for the second.
-unfoldable pub two-level-sum : ℤ → ℤ → ℕ → ℕ → (ℕ → ℕ → ℤ) → (ℕ → ℕ → ℤ) → ℕ → ℕ → ℤ
-two-level-sum limit second-limit w h guide own =
-    join 1 w h (λ i j. over-level (held-sum second-limit 2 w h (low-band w h guide) (low-band w h own) i j) (hold-details limit (split 1 w h guide i j) (split 1 w h own i j)))
+-- join. Nothing is rounded before.
+unfoldable pub two-level-sum : Limits → ℕ → ℕ → (ℕ → ℕ → ℤ) → (ℕ → ℕ → ℤ) → ℕ → ℕ → ℤ
+two-level-sum limits w h guide own =
+    join 1 w h (λ i j. over-level (held-sum (limits .second) 2 w h (low-band w h guide) (low-band w h own) i j) (hold-details (limits .first) (split 1 w h guide i j) (split 1 w h own i j)))
 
 -- "the whole is rounded only there: (s + 524,288) whole-divided by 1,048,576, then clipped"
-unfoldable pub two-level-projected : ℤ → ℤ → ℤ → ℤ → ℕ → ℕ → (ℕ → ℕ → ℤ) → (ℕ → ℕ → ℤ) → ℕ → ℕ → ℤ
-two-level-projected limit second-limit least most w h guide own r c = rescaled 1048576 least most (two-level-sum limit second-limit w h guide own r c)
+unfoldable pub two-level-projected : Limits → ℤ → ℤ → ℕ → ℕ → (ℕ → ℕ → ℤ) → (ℕ → ℕ → ℤ) → ℕ → ℕ → ℤ
+two-level-projected limits least most w h guide own r c = rescaled 1048576 least most (two-level-sum limits w h guide own r c)
