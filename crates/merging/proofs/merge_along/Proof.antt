@@ -16,17 +16,18 @@ pad-line-requires-2 c κs = search needs
 
 add-low-requires : tie.Need-add-low-requires
 add-low-requires c κs =
-    let s = c .before .before .before .before .before .before .before .before .before in
-    let a = s .args in
-    let r = five-runs 1 (s .pre .0 .0) refl (now (a .whole)) (s .pre .0 .2) (c .before .before .before .before .before .before .before .pad-line .ensures) (s .pre .0 .4) in
-    ((r, s .pre .1 .0, s .pre .1 .1), (search needs, search needs))
+    let p = c .before .before .before .before in
+    let s = p .before .before .before .before .before in
+    let runs = five-runs 1 (s .pre .0 .0) refl (now (s .args .whole)) (s .pre .0 .2) (p .before .before .before .pad-line .ensures) (s .pre .0 .4) in
+    search needs
 
 join-low-requires : tie.Need-join-low-requires
 join-low-requires c κs =
-    let s = c .before .before .before .before .before .before .before .before .before .before .before .before .before .before in
-    let a = s .args in
-    let r = five-runs 1 (s .pre .0 .0) refl (now (a .rest)) (s .pre .0 .3) (c .before .before .before .before .before .before .before .before .before .pad-line2 .ensures) (s .pre .0 .5) in
-    (r, search needs)
+    let p = c .before .before .before .before .before .before .before .before .before in
+    let s = p .before .before .before .before .before in
+    let runs = five-runs 1 (s .pre .0 .0) refl (now (s .args .whole)) (s .pre .0 .2) (p .before .before .before .pad-line .ensures) (s .pre .0 .4) in
+    let rests = five-runs 1 (s .pre .0 .0) refl (now (s .args .rest)) (s .pre .0 .3) (p .pad-line2 .ensures) (s .pre .0 .5) in
+    search needs
 
 same-length : tie.Need-same-length
 same-length c = search needs
@@ -45,15 +46,15 @@ same-length-5 c = search needs
 
 returns : tie.Need-returns
 returns c =
-    let s = c .before .before .before .before .before .before .before .before .before .before .before .before .before .before .before .before in
+    let q = c .before .before .before .before .before .before in
+    let p = q .before .before .before .before .before in
+    let s = p .before .before .before .before .before in
     let a = s .args in
-    let e = c .before .before .before .before .before .before .before .before .before .before .before .before .before .before .pad-line .ensures in
-    let f = c .before .before .before .before .before .before .before .before .before .before .before .pad-line2 .ensures in
-    let m = c .before .before .before .before .before .before .add-low .ensures in (
-      (e, f),
+    let e = p .before .before .before .pad-line .ensures in (
+      (e, p .pad-line2 .ensures),
       (
-        away-laid (s .pre .0 .0) (now (a .whole)) (s .pre .0 .2) e (now (a .apart1)) (a .from) (now (a .apart)) (a .at) (m .0),
-        (added-laid (s .pre .0 .0) (now (a .whole)) (s .pre .0 .2) e (now (a .together1)) (a .from) (now (a .together)) (a .at) (m .1), low-laid (s .pre .0 .0) (now (a .rest)) (s .pre .0 .3) f (now (a .out)) (a .at) (c .before .join-low .ensures)),
+        away-laid (s .pre .0 .0) (now (a .whole)) (s .pre .0 .2) e (now (a .apart1)) (a .from) (now (a .apart)) (a .at) (q .add-low .ensures .0),
+        (added-laid (s .pre .0 .0) (now (a .whole)) (s .pre .0 .2) e (now (a .together1)) (a .from) (now (a .together)) (a .at) (q .add-low .ensures .1), low-laid (s .pre .0 .0) (now (a .rest)) (s .pre .0 .3) (p .pad-line2 .ensures) (now (a .out)) (a .at) (c .before .join-low .ensures)),
       ),
     )
 
