@@ -9,7 +9,7 @@ ghost use Rattle.planes.specs.Lists.{value};
 ghost use Rattle.filters.specs.Bank.{low-split, low-join, along};
 ghost use Rattle.lines.specs.Lines.{Run, Runs, spaced, three, five, padded};
 ghost use Rattle.details.specs.Details.{Triple, from-place, Crossing};
-ghost use Rattle.nested_floor.specs.NestedFloor.{whole as whole-of, rest as rest-of};
+ghost use Rattle.nested_floor.specs.NestedFloor.{whole, rest};
 ghost use Rattle.merging.specs.Merging.{crossed-of, low-away, low-added, settled-place};
 
 // The low split filter along a padded line of n, with taps d places apart: band 1, from a line that is low along the columns.
@@ -27,7 +27,7 @@ pub fn band_line(line: &[i32], d: usize, n: usize, out: &mut [i32], at: usize)
 // The whole parts of five values, of x and of y in turn, through the high join filter.
 fn whole_crossed(x: &[i32], y: &[i32], starts: lines::Five, n: usize, k: usize) -> i32
     requires { ⌜ Crossing 805306368 (now x) (now y) starts n × (k < n) ⌝ }
-    ensures { λ r. ⌜ r ≡ crossed-of whole-of (now (x .entry)) (now (y .entry)) starts k ⌝ }
+    ensures { λ r. ⌜ r ≡ crossed-of whole (now (x .entry)) (now (y .entry)) starts k ⌝ }
 {
     filters::high_join(
         nested_floor::whole_part(x[starts.a + k]),
@@ -41,7 +41,7 @@ fn whole_crossed(x: &[i32], y: &[i32], starts: lines::Five, n: usize, k: usize) 
 // And their rests.
 fn rest_crossed(x: &[i32], y: &[i32], starts: lines::Five, n: usize, k: usize) -> i32
     requires { ⌜ Crossing 805306368 (now x) (now y) starts n × (k < n) ⌝ }
-    ensures { λ r. ⌜ r ≡ crossed-of rest-of (now (x .entry)) (now (y .entry)) starts k ⌝ }
+    ensures { λ r. ⌜ r ≡ crossed-of rest (now (x .entry)) (now (y .entry)) starts k ⌝ }
 {
     filters::high_join(
         nested_floor::rest_part(x[starts.a + k]),
@@ -55,7 +55,7 @@ fn rest_crossed(x: &[i32], y: &[i32], starts: lines::Five, n: usize, k: usize) -
 // Five rows of n through the high join filter: of the whole parts, from place 2 of `out` on.
 pub fn cross_whole(x: &[i32], y: &[i32], starts: lines::Five, n: usize, out: &mut [i32])
     requires { ⌜ Crossing 805306368 (now x) (now y) starts n × (2 + n ≤ length (now out)) ⌝ }
-    ensures { λ _. ⌜ now (out .exit) ≡ overwrite (now (out .entry)) 2 n (crossed-of whole-of (now (x .entry)) (now (y .entry)) starts) ⌝ }
+    ensures { λ _. ⌜ now (out .exit) ≡ overwrite (now (out .entry)) 2 n (crossed-of whole (now (x .entry)) (now (y .entry)) starts) ⌝ }
 {
     let mut k = 0;
     while k < n {
@@ -67,7 +67,7 @@ pub fn cross_whole(x: &[i32], y: &[i32], starts: lines::Five, n: usize, out: &mu
 // And of the rests. Each is a loop of its own, as one over two results would need too many checks of overlap to become vectors.
 pub fn cross_rest(x: &[i32], y: &[i32], starts: lines::Five, n: usize, out: &mut [i32])
     requires { ⌜ Crossing 805306368 (now x) (now y) starts n × (2 + n ≤ length (now out)) ⌝ }
-    ensures { λ _. ⌜ now (out .exit) ≡ overwrite (now (out .entry)) 2 n (crossed-of rest-of (now (x .entry)) (now (y .entry)) starts) ⌝ }
+    ensures { λ _. ⌜ now (out .exit) ≡ overwrite (now (out .entry)) 2 n (crossed-of rest (now (x .entry)) (now (y .entry)) starts) ⌝ }
 {
     let mut k = 0;
     while k < n {

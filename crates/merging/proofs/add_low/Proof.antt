@@ -13,11 +13,10 @@ use mir.Facts.{toZ-ofZ as back}
 use Rattle.integers.specs.Lists.{overwrite}
 use Rattle.integers.proofs.Lists.{overwrite-none, overwrite-step}
 use Rattle.integers.proofs.Bounds.{fits, bounds, read-is, read-bound}
-use Rattle.filters.specs.Bank.{low-join}
 use Rattle.planes.specs.Lists.{value}
-use Rattle.lines.proofs.Lines.{read-small, read-value}
+use Rattle.filters.specs.Bank.{low-join}
 use Rattle.filters.proofs.Ranges.{gain}
-use Rattle.lines.proofs.Lines.{five-range}
+use Rattle.lines.proofs.Lines.{read-small, read-value, five-range}
 use Rattle.merging.specs.Merging.{low-away, low-added}
 use Rattle.merging.proofs.add_low.Statement.{statement}
 use Rattle.merging.proofs.add_low.Tie as tie

@@ -5,10 +5,10 @@ use lib.IntN.{natAbs}
 use mir.Syntax.{w32}
 use mir.Val.{toZ, ofZ}
 use mir.Facts.{toZ-ofZ as back}
+use borrow.Author.Needs.{needs}
 use Rattle.integers.proofs.Bounds.{fits, bounds, read-is, read-bound}
 use Rattle.nested_floor.specs.NestedFloor.{rest}
 use Rattle.nested_floor.proofs.NestedFloor.{whole-bound}
-use borrow.Author.Needs.{needs}
 use Rattle.nested_floor.proofs.rest_part.Statement.{statement}
 use Rattle.nested_floor.proofs.rest_part.Tie as tie
 
