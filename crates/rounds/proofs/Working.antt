@@ -19,8 +19,9 @@ use Rattle.planes.proofs.Planes.{sizes-from-1, place-inside}
 use Rattle.filters.specs.Bank.{Distance}
 use Rattle.projection.specs.Projection.{projected}
 use Rattle.projection.proofs.Projection.{projected-agrees}
-use Rattle.sweep.specs.Planes.{own-plane, guide-plane, Projectable, with-projected}
-use Rattle.sweep.specs.declared.Given.{Given}
+use Rattle.rings.specs.Planes.{own-plane, guide-plane, Projectable}
+use Rattle.sweep.specs.Sweep.{with-projected}
+use Rattle.rings.specs.declared.Given.{Given}
 use Rattle.work_buffer.specs.Buffer.{with-plane, Narrow, Workable}
 use Rattle.work_buffer.proofs.Buffer.{length-with-plane, with-plane-at, plane-with, with-plane-agree, with-plane-again, with-own-plane, loaded, put-samples, SampleTo, narrow-plane}
 use Rattle.rounds.specs.Rounds.{Round, put-observed, round, working-plane, rewritten}

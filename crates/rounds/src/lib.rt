@@ -92,7 +92,7 @@ fn round(colour: Colour, top: u16, mosaic: &[u16], green: &[u16], work: &mut [i3
     let height = colour.height;
     let limit = limit_of(colour.threshold);
     let most = top as i32;
-    let given = sweep::Given {
+    let given = rings::Given {
         at: 0,
         from: 0,
         down: width,

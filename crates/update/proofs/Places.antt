@@ -24,8 +24,9 @@ use Rattle.planes.proofs.Places.{length-put, second-inside, small-inside, row-p
 use Rattle.filters.specs.Bank.{Distance}
 use Rattle.projection.specs.Projection.{projected}
 use Rattle.projection.proofs.Projection.{projected-agrees}
-use Rattle.sweep.specs.declared.Given.{Given}
-use Rattle.sweep.specs.Planes.{own-plane, guide-plane, Projectable, with-projected}
+use Rattle.rings.specs.declared.Given.{Given}
+use Rattle.rings.specs.Planes.{own-plane, guide-plane, Projectable}
+use Rattle.sweep.specs.Sweep.{with-projected}
 use Rattle.work_buffer.specs.Buffer.{with-plane, Narrow, Workable}
 use Rattle.work_buffer.proofs.Buffer.{with-plane-at, narrow-plane}
 use Rattle.update.specs.Update.{small-plane, mixed, put-mixed}

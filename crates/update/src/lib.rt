@@ -84,7 +84,7 @@ fn update_places(
     let rows = (height + 1 - a) / 2;
     let from = a * width + b;
     let down = 2 * width;
-    let given = sweep::Given {
+    let given = rings::Given {
         at: 0,
         from,
         down,

@@ -14,7 +14,7 @@ use Rattle.integers.proofs.Bounds.{read-is}
 use Rattle.planes.specs.Places.{half}
 use Rattle.planes.proofs.Places.{small-rows}
 use Rattle.filters.specs.Bank.{Distance}
-use Rattle.sweep.specs.Planes.{with-projected}
+use Rattle.sweep.specs.Sweep.{with-projected}
 use Rattle.rounds.specs.Rounds.{limit-of}
 use Rattle.rounds.proofs.Working.{given, projectable, round-laid}
 use Rattle.rounds.proofs.round.Statement.{statement}

@@ -4,7 +4,7 @@ use mathlib.Core.Path.{_∙_}
 use native.Mathlib.Omega.{arith}
 use denote.Ref.{now}
 use mir.Facts.{toZ-ofZ as back}
-use Rattle.sweep.specs.Planes.{with-projected}
+use Rattle.sweep.specs.Sweep.{with-projected}
 use borrow.Author.Needs.{needs}
 use Rattle.sweep.proofs.project.Statement.{statement}
 use Rattle.sweep.proofs.project.Tie as tie
@@ -37,7 +37,7 @@ project-rows-requires : tie.Need-project-rows-requires
 project-rows-requires c κs =
     let p = c .before .before .before .before .before .before .before .before .before .before .pre in
     let w = p .sizes .width-to in
-    (p, ((omega (arith, w), omega (arith, w), omega (arith, w), omega (arith, w), omega (arith, w), omega (arith, w)), (omega (arith, w), omega (arith, w))))
+    ((p, omega (arith, w)), ((omega (arith, w), omega (arith, w), omega (arith, w), omega (arith, w), omega (arith, w)), (omega (arith, w), omega (arith, w))))
 
 same-length : tie.Need-same-length
 same-length c = search needs

@@ -13,7 +13,7 @@ use mir.Facts.{toZ-pos}
 use borrow.Author.Needs.{needs}
 use Rattle.planes.specs.Places.{half}
 use Rattle.planes.proofs.Places.{few-places, small-rows}
-use Rattle.sweep.specs.Planes.{with-projected}
+use Rattle.sweep.specs.Sweep.{with-projected}
 use Rattle.update.specs.Places.{with-mixed}
 use Rattle.update.proofs.Places.{given, projectable, mixed-laid, mixed-narrow, green-laid}
 use Rattle.update.proofs.update_places.Statement.{statement}
