@@ -1,4 +1,4 @@
-//! Document 01, "Filter bank".
+//! Document 01, "Filter bank". The taps stand next to each other there; the second level of Req 01 has them further apart.
 
 use crate::border::reflect;
 
@@ -13,24 +13,24 @@ pub const SPLIT_LIMIT: i32 = 8_190;
 pub const JOIN_LIMIT: i32 = 131_040;
 
 /// A plane or a band, row by row. Numbers of 64 bits: nothing overflows.
-struct Plane {
+pub struct Plane {
     width: usize,
     height: usize,
-    values: Vec<i64>,
+    pub values: Vec<i64>,
 }
 
 impl Plane {
-    fn given(width: usize, height: usize, values: &[i32]) -> Plane {
-        Plane { width, height, values: values.iter().map(|&value| i64::from(value)).collect() }
+    pub fn given<T: Copy + Into<i64>>(width: usize, height: usize, values: &[T]) -> Plane {
+        Plane { width, height, values: values.iter().map(|&value| value.into()).collect() }
     }
 
     /// What row i, column j holds, reflected where it lies outside.
-    fn at(&self, i: i64, j: i64) -> i64 {
+    pub fn at(&self, i: i64, j: i64) -> i64 {
         self.values[reflect(self.height, i) * self.width + reflect(self.width, j)]
     }
 
     /// A plane as large as this one, whose row i, column j holds `held(i, j)`.
-    fn filled(&self, held: impl Fn(i64, i64) -> i64) -> Plane {
+    pub fn filled(&self, held: impl Fn(i64, i64) -> i64) -> Plane {
         let mut values = Vec::new();
         for i in 0..self.height as i64 {
             for j in 0..self.width as i64 {
@@ -40,18 +40,39 @@ impl Plane {
         Plane { values, ..*self }
     }
 
-    /// The taps run along each row.
-    fn along_rows(&self, taps: &[i64]) -> Plane {
-        self.filled(|i, j| weighted(taps, |k| self.at(i, j + k)))
+    /// The taps run along each row, so many places apart.
+    fn along_rows(&self, spacing: i64, taps: &[i64]) -> Plane {
+        self.filled(|i, j| weighted(taps, |k| self.at(i, j + spacing * k)))
     }
 
-    /// The taps run along each column.
-    fn along_columns(&self, taps: &[i64]) -> Plane {
-        self.filled(|i, j| weighted(taps, |k| self.at(i + k, j)))
+    /// The taps run along each column, so many places apart.
+    fn along_columns(&self, spacing: i64, taps: &[i64]) -> Plane {
+        self.filled(|i, j| weighted(taps, |k| self.at(i + spacing * k, j)))
     }
 
     fn plus(&self, other: &Plane) -> Plane {
         self.filled(|i, j| self.at(i, j) + other.at(i, j))
+    }
+
+    /// The four bands, with taps so many places apart.
+    pub fn split(&self, spacing: i64) -> [Plane; 4] {
+        let low = |taps: &[i64]| self.along_rows(spacing, &LOW_SPLIT).along_columns(spacing, taps);
+        let high = |taps: &[i64]| self.along_rows(spacing, &HIGH_SPLIT).along_columns(spacing, taps);
+        [low(&LOW_SPLIT), high(&LOW_SPLIT), low(&HIGH_SPLIT), high(&HIGH_SPLIT)]
+    }
+
+    /// The sums of four bands, with taps so many places apart.
+    pub fn join(spacing: i64, bands: [Plane; 4]) -> Plane {
+        let low = |band: &Plane, taps: &[i64]| {
+            band.along_rows(spacing, &LOW_JOIN).along_columns(spacing, taps)
+        };
+        let high = |band: &Plane, taps: &[i64]| {
+            band.along_rows(spacing, &HIGH_JOIN).along_columns(spacing, taps)
+        };
+        let [band1, band2, band3, band4] = &bands;
+        let upper = low(band1, &LOW_JOIN).plus(&high(band2, &LOW_JOIN));
+        let lower = low(band3, &HIGH_JOIN).plus(&high(band4, &HIGH_JOIN));
+        upper.plus(&lower)
     }
 
     fn copied_to(&self, buffer: &mut [i32]) {
@@ -97,12 +118,9 @@ pub fn split(width: usize, height: usize, plane: &[i32], bands: [&mut [i32]; 4])
     if !in_range(plane, SPLIT_LIMIT) {
         return Err(15);
     }
-    let plane = Plane::given(width, height, plane);
-    let [band1, band2, band3, band4] = bands;
-    plane.along_rows(&LOW_SPLIT).along_columns(&LOW_SPLIT).copied_to(band1);
-    plane.along_rows(&HIGH_SPLIT).along_columns(&LOW_SPLIT).copied_to(band2);
-    plane.along_rows(&LOW_SPLIT).along_columns(&HIGH_SPLIT).copied_to(band3);
-    plane.along_rows(&HIGH_SPLIT).along_columns(&HIGH_SPLIT).copied_to(band4);
+    for (band, buffer) in Plane::given(width, height, plane).split(1).iter().zip(bands) {
+        band.copied_to(buffer);
+    }
     Ok(())
 }
 
@@ -120,12 +138,7 @@ pub fn join(width: usize, height: usize, bands: [&[i32]; 4], sums: &mut [i32]) -
     if !bands.iter().all(|band| in_range(band, JOIN_LIMIT)) {
         return Err(15);
     }
-    let [band1, band2, band3, band4] = bands.map(|band| Plane::given(width, height, band));
-    let joined1 = band1.along_rows(&LOW_JOIN).along_columns(&LOW_JOIN);
-    let joined2 = band2.along_rows(&HIGH_JOIN).along_columns(&LOW_JOIN);
-    let joined3 = band3.along_rows(&LOW_JOIN).along_columns(&HIGH_JOIN);
-    let joined4 = band4.along_rows(&HIGH_JOIN).along_columns(&HIGH_JOIN);
-    joined1.plus(&joined2).plus(&joined3).plus(&joined4).copied_to(sums);
+    Plane::join(1, bands.map(|band| Plane::given(width, height, band))).copied_to(sums);
     Ok(())
 }
 
@@ -143,19 +156,20 @@ pub fn sums_of(width: usize, height: usize, bands: [&[i32]; 4]) -> Vec<i32> {
     sums
 }
 
-/// (s + 512) whole-divided by 1,024, not yet clipped.
-fn whole_divided(sum: i32) -> i64 {
-    (i64::from(sum) + 512).div_euclid(1024)
+/// A sum that is so many times the paper's: half of that many added, whole-divided. Not yet clipped.
+pub fn whole_divided(sum: i64, times: i64) -> i64 {
+    (sum + times / 2).div_euclid(times)
 }
 
 /// A sum brought back to a sample.
 pub fn bring_back(sum: i32) -> u16 {
-    whole_divided(sum).clamp(0, 4095) as u16
+    whole_divided(sum.into(), 1024).clamp(0, 4095) as u16
 }
 
 #[cfg(test)]
 mod tests {
     use super::*;
+    use crate::chance::Chance;
 
     /// The four bands of a plane.
     fn split_of(width: usize, height: usize, plane: &[i32]) -> Result<[Vec<i32>; 4], u32> {
@@ -183,6 +197,33 @@ mod tests {
         let bands = [vec![64, 64, 64], vec![0; 3], vec![64, -64, 64], vec![0; 3]];
         assert_eq!(split_of(1, 3, &[0, 8, 0]), Ok(bands.clone()));
         assert_eq!(join_of(1, 3, &bands), Ok(vec![0, 8192, 0]));
+    }
+
+    /// Case d with a zero between its values, and taps two places apart: a reflected index keeps its parity, so that the
+    /// even places are case d's and the odd ones stay zero.
+    #[test]
+    fn case_d_at_every_second_place() {
+        let split = |width, height| Plane::given(width, height, &[0, 0, 8, 0, 0]).split(2);
+        let due = [[64, 0, 64, 0, 64], [64, 0, -64, 0, 64], [0; 5], [0; 5]];
+        assert_eq!(split(5, 1).map(|band| band.values), due);
+        assert_eq!(split(1, 5).map(|band| band.values), [due[0], due[2], due[1], due[3]]);
+        for (width, height) in [(5, 1), (1, 5)] {
+            assert_eq!(Plane::join(2, split(width, height)).values, [0, 0, 8192, 0, 0]);
+        }
+    }
+
+    #[test]
+    fn joining_what_was_split_is_1024_times_the_plane() {
+        let chance = &mut Chance(0x9e37_79b9_7f4a_7c15);
+        for (width, height) in (1..=9).flat_map(|width| (1..=9).map(move |height| (width, height))) {
+            let values: Vec<i32> = (0..width * height).map(|_| chance.within(131_070)).collect();
+            let plane = Plane::given(width, height, &values);
+            let due = plane.filled(|i, j| 1024 * plane.at(i, j));
+            for spacing in 1..=4 {
+                let sums = Plane::join(spacing, plane.split(spacing));
+                assert_eq!(sums.values, due.values, "{width} by {height}, taps {spacing} apart");
+            }
+        }
     }
 
     #[test]
@@ -218,7 +259,9 @@ mod tests {
 
     #[test]
     fn brought_back() {
-        assert_eq!([512, 511, -512, -513].map(whole_divided), [1, 0, 0, -1]);
+        assert_eq!([512, 511, -512, -513].map(|sum| whole_divided(sum, 1024)), [1, 0, 0, -1]);
+        let sums = [524_288, 524_287, -524_288, -524_289, 1_572_864, -1_572_865];
+        assert_eq!(sums.map(|sum| whole_divided(sum, 1_048_576)), [1, 0, 0, -1, 2, -2]);
         assert_eq!([512, 511, -512, -513, i32::MIN].map(bring_back), [1, 0, 0, 0, 0]);
         let most = 4095 * 1024;
         assert_eq!([most - 513, most - 512, most + 512, i32::MAX].map(bring_back), [4094, 4095, 4095, 4095]);

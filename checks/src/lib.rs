@@ -21,6 +21,7 @@ pub mod packet;
 pub mod packet_examples;
 pub mod planes_call;
 pub mod program;
+pub mod projection;
 pub mod refusals;
 pub mod rounds;
 pub mod stores;
