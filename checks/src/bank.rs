@@ -54,25 +54,26 @@ impl Plane {
         self.filled(|i, j| self.at(i, j) + other.at(i, j))
     }
 
+    /// Both, first along the rows.
+    fn filtered(&self, spacing: i64, along_rows: &[i64], along_columns: &[i64]) -> Plane {
+        self.along_rows(spacing, along_rows).along_columns(spacing, along_columns)
+    }
+
     /// The four bands, with taps so many places apart.
     pub fn split(&self, spacing: i64) -> [Plane; 4] {
-        let low = |taps: &[i64]| self.along_rows(spacing, &LOW_SPLIT).along_columns(spacing, taps);
-        let high = |taps: &[i64]| self.along_rows(spacing, &HIGH_SPLIT).along_columns(spacing, taps);
-        [low(&LOW_SPLIT), high(&LOW_SPLIT), low(&HIGH_SPLIT), high(&HIGH_SPLIT)]
+        let (low, high) = (LOW_SPLIT, HIGH_SPLIT);
+        [(low, low), (high, low), (low, high), (high, high)]
+            .map(|(along_rows, along_columns)| self.filtered(spacing, &along_rows, &along_columns))
     }
 
     /// The sums of four bands, with taps so many places apart.
     pub fn join(spacing: i64, bands: [Plane; 4]) -> Plane {
-        let low = |band: &Plane, taps: &[i64]| {
-            band.along_rows(spacing, &LOW_JOIN).along_columns(spacing, taps)
-        };
-        let high = |band: &Plane, taps: &[i64]| {
-            band.along_rows(spacing, &HIGH_JOIN).along_columns(spacing, taps)
-        };
-        let [band1, band2, band3, band4] = &bands;
-        let upper = low(band1, &LOW_JOIN).plus(&high(band2, &LOW_JOIN));
-        let lower = low(band3, &HIGH_JOIN).plus(&high(band4, &HIGH_JOIN));
-        upper.plus(&lower)
+        let [band1, band2, band3, band4] = bands;
+        let joined1 = band1.filtered(spacing, &LOW_JOIN, &LOW_JOIN);
+        let joined2 = band2.filtered(spacing, &HIGH_JOIN, &LOW_JOIN);
+        let joined3 = band3.filtered(spacing, &LOW_JOIN, &HIGH_JOIN);
+        let joined4 = band4.filtered(spacing, &HIGH_JOIN, &HIGH_JOIN);
+        joined1.plus(&joined2).plus(&joined3).plus(&joined4)
     }
 
     fn copied_to(&self, buffer: &mut [i32]) {
