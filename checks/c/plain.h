@@ -51,20 +51,21 @@ struct guide {
 /* Holds the plane's details within the guide's, plus or minus the limit, joins and brings back. */
 void PLAIN(project)(size_t width, size_t height, int32_t *plane, struct guide guide, int32_t limit);
 
-/* The place that index i means in a line of n. It lies at most 2 places outside. */
+/* The same at two levels of the bank, on a guide row by row, clipped to these ends. */
+void PLAIN(project_two)(size_t width, size_t height, int32_t *plane, const uint16_t *guide, int32_t limit,
+                        int32_t second_limit, int32_t least, int32_t most);
+
+/* The place that index i means in a line of n. */
 static inline size_t reflected(size_t n, ptrdiff_t i)
 {
     ptrdiff_t last = (ptrdiff_t)n - 1;
     if (last == 0) {
         return 0;
     }
-    if (i < 0) {
-        i = -i;
+    while (i < 0 || i > last) {
+        i = i < 0 ? -i : 2 * last - i;
     }
-    if (i > last) {
-        i = 2 * last - i;
-    }
-    return (size_t)(i < 0 ? -i : i);
+    return (size_t)i;
 }
 
 /* Questions 1 and 2, from this size on. */

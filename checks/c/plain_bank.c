@@ -55,20 +55,12 @@ uint32_t PLAIN(split)(size_t width, size_t height, const int32_t *plane, size_t 
         struct three rows = {plane + row_start(width, height, r, -1), plane + here,
                              plane + row_start(width, height, r, 1)};
         split_line(width, rows, low, high);
-        fill_beside(width, low);
-        fill_beside(width, high);
-        split_line(width, three_along(low), band1 + here, band2 + here);
-        split_line(width, three_along(high), band3 + here, band4 + here);
+        fill_beside(width, 1, low);
+        fill_beside(width, 1, high);
+        split_line(width, three_along(1, low), band1 + here, band2 + here);
+        split_line(width, three_along(1, high), band3 + here, band4 + here);
     }
     return 0;
-}
-
-/* The low join filter, -1 2 6 2 -1. As in the engine, the high one is a loop of its own. */
-static void low_line(size_t n, struct five x, int32_t *restrict out)
-{
-    for (size_t k = 0; k < n; k++) {
-        out[k] = 2 * (x.b[k] + 3 * x.c[k] + x.d[k]) - (x.a[k] + x.e[k]);
-    }
 }
 
 static void add_high_line(size_t n, struct five x, int32_t *restrict out)
@@ -86,7 +78,7 @@ static void join_rows(size_t width, size_t height, size_t r, const int32_t *low,
     size_t d = row_start(width, height, r, 1), e = row_start(width, height, r, 2);
     low_line(width, (struct five){low + a, low + b, low + c, low + d, low + e}, out);
     add_high_line(width, (struct five){high + a, high + b, high + c, high + d, high + e}, out);
-    fill_beside(width, out);
+    fill_beside(width, 2, out);
 }
 
 uint32_t PLAIN(join)(size_t width, size_t height, const int32_t *band1, size_t length1, const int32_t *band2,
@@ -113,8 +105,8 @@ uint32_t PLAIN(join)(size_t width, size_t height, const int32_t *band1, size_t l
     for (size_t r = 0; r < height; r++) {
         join_rows(width, height, r, band1, band3, low);
         join_rows(width, height, r, band2, band4, high);
-        low_line(width, five_along(low), sums + r * width);
-        add_high_line(width, five_along(high), sums + r * width);
+        low_line(width, five_along(1, low), sums + r * width);
+        add_high_line(width, five_along(1, high), sums + r * width);
     }
     return 0;
 }

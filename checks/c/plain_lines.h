@@ -1,4 +1,4 @@
-/* What the plain C of the bank and of the projection share: lines, and the filters along them. */
+/* What the plain C of the bank and of the projections share: lines, and the filters along them. */
 
 #ifndef PLAIN_LINES_H
 #define PLAIN_LINES_H
@@ -17,25 +17,25 @@ struct five {
     const int32_t *a, *b, *c, *d, *e;
 };
 
-/* Two reflected places on either side of a line of n. */
-static inline void fill_beside(size_t n, int32_t *line)
+/* So many reflected places on either side of a line of n. */
+static inline void fill_beside(size_t n, ptrdiff_t count, int32_t *line)
 {
     ptrdiff_t end = (ptrdiff_t)n;
-    line[-1] = line[reflected(n, -1)];
-    line[-2] = line[reflected(n, -2)];
-    line[end] = line[reflected(n, end)];
-    line[end + 1] = line[reflected(n, end + 1)];
+    for (ptrdiff_t k = 0; k < count; k++) {
+        line[-1 - k] = line[reflected(n, -1 - k)];
+        line[end + k] = line[reflected(n, end + k)];
+    }
 }
 
-/* A line and its neighbours, as so many lines. */
-static inline struct three three_along(const int32_t *line)
+/* A line and its neighbours, so far apart, as so many lines. */
+static inline struct three three_along(ptrdiff_t spacing, const int32_t *line)
 {
-    return (struct three){line - 1, line, line + 1};
+    return (struct three){line - spacing, line, line + spacing};
 }
 
-static inline struct five five_along(const int32_t *line)
+static inline struct five five_along(ptrdiff_t spacing, const int32_t *line)
 {
-    return (struct five){line - 2, line - 1, line, line + 1, line + 2};
+    return (struct five){line - 2 * spacing, line - spacing, line, line + spacing, line + 2 * spacing};
 }
 
 /* Both split filters, 1 2 1 and 1 -2 1. */
@@ -49,10 +49,23 @@ static inline void split_line(size_t n, struct three x, int32_t *restrict low, i
     }
 }
 
-/* The high join filter, 1 2 -6 2 1. */
+/* The low join filter, -1 2 6 2 -1, and the high one, 1 2 -6 2 1. */
+static inline int32_t low_join(struct five x, size_t k)
+{
+    return 2 * (x.b[k] + 3 * x.c[k] + x.d[k]) - (x.a[k] + x.e[k]);
+}
+
 static inline int32_t high_join(struct five x, size_t k)
 {
     return x.a[k] + x.e[k] + 2 * (x.b[k] + x.d[k] - 3 * x.c[k]);
+}
+
+/* As in the engine, the high filter is a loop of its own where both are needed. */
+static inline void low_line(size_t n, struct five x, int32_t *restrict out)
+{
+    for (size_t k = 0; k < n; k++) {
+        out[k] = low_join(x, k);
+    }
 }
 
 #endif

@@ -31,7 +31,7 @@ impl Plane {
 
     /// A plane as large as this one, whose row i, column j holds `held(i, j)`.
     pub fn filled(&self, held: impl Fn(i64, i64) -> i64) -> Plane {
-        let mut values = Vec::new();
+        let mut values = Vec::with_capacity(self.values.len());
         for i in 0..self.height as i64 {
             for j in 0..self.width as i64 {
                 values.push(held(i, j));
@@ -54,25 +54,25 @@ impl Plane {
         self.filled(|i, j| self.at(i, j) + other.at(i, j))
     }
 
-    /// Both, first along the rows.
-    fn filtered(&self, spacing: i64, along_rows: &[i64], along_columns: &[i64]) -> Plane {
-        self.along_rows(spacing, along_rows).along_columns(spacing, along_columns)
-    }
-
     /// The four bands, with taps so many places apart.
     pub fn split(&self, spacing: i64) -> [Plane; 4] {
-        let (low, high) = (LOW_SPLIT, HIGH_SPLIT);
-        [(low, low), (high, low), (low, high), (high, high)]
-            .map(|(along_rows, along_columns)| self.filtered(spacing, &along_rows, &along_columns))
+        let low = self.along_rows(spacing, &LOW_SPLIT);
+        let high = self.along_rows(spacing, &HIGH_SPLIT);
+        [
+            low.along_columns(spacing, &LOW_SPLIT),
+            high.along_columns(spacing, &LOW_SPLIT),
+            low.along_columns(spacing, &HIGH_SPLIT),
+            high.along_columns(spacing, &HIGH_SPLIT),
+        ]
     }
 
     /// The sums of four bands, with taps so many places apart.
     pub fn join(spacing: i64, bands: [Plane; 4]) -> Plane {
         let [band1, band2, band3, band4] = bands;
-        let joined1 = band1.filtered(spacing, &LOW_JOIN, &LOW_JOIN);
-        let joined2 = band2.filtered(spacing, &HIGH_JOIN, &LOW_JOIN);
-        let joined3 = band3.filtered(spacing, &LOW_JOIN, &HIGH_JOIN);
-        let joined4 = band4.filtered(spacing, &HIGH_JOIN, &HIGH_JOIN);
+        let joined1 = band1.along_rows(spacing, &LOW_JOIN).along_columns(spacing, &LOW_JOIN);
+        let joined2 = band2.along_rows(spacing, &HIGH_JOIN).along_columns(spacing, &LOW_JOIN);
+        let joined3 = band3.along_rows(spacing, &LOW_JOIN).along_columns(spacing, &HIGH_JOIN);
+        let joined4 = band4.along_rows(spacing, &HIGH_JOIN).along_columns(spacing, &HIGH_JOIN);
         joined1.plus(&joined2).plus(&joined3).plus(&joined4)
     }
 
@@ -86,7 +86,7 @@ impl Plane {
 /// The sum of tap times value, where `value(0)` is the one under the middle tap.
 fn weighted(taps: &[i64], value: impl Fn(i64) -> i64) -> i64 {
     let reach = taps.len() as i64 / 2;
-    (-reach..=reach).zip(taps).map(|(k, tap)| tap * value(k)).sum()
+    (-reach..).zip(taps).map(|(k, tap)| tap * value(k)).sum()
 }
 
 /// Questions 1 and 2, from 1 for the bank alone.

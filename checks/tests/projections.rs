@@ -77,14 +77,17 @@ fn projected(projection: &Projection, pair: &Pair, what: &str) -> Vec<i32> {
     left
 }
 
-/// What the library and the reference both leave, at one level and at two.
+/// What the library and the reference both leave.
+fn alike(projection: &Projection, pair: &Pair, what: &str) -> Vec<i32> {
+    let left = projected(projection, pair, what);
+    let due = projection.of(&pair.own, &pair.guide);
+    assert_same(&left, &due, &format!("{projection:?}, {what}"));
+    left
+}
+
+/// The same at one level and at two.
 fn compared(pair: &Pair, setting: &Setting, what: &str) -> [Vec<i32>; 2] {
-    setting.projections(pair).map(|projection| {
-        let left = projected(&projection, pair, what);
-        let due = projection.of(&pair.own, &pair.guide);
-        assert_same(&left, &due, &format!("{projection:?}, {what}"));
-        left
-    })
+    setting.projections(pair).map(|projection| alike(&projection, pair, what))
 }
 
 /// Thresholds of either width of samples, with the ends and some by hand more often than by chance.
@@ -141,10 +144,10 @@ fn pairs(width: usize, height: usize, plane: &[u16], guide: &[u16]) -> [Pair; 4]
     ]
 }
 
-/// Planes and guides of kinds by chance, as many as there are kinds.
-fn some_pairs(chance: &mut Chance, width: usize, height: usize) {
+/// Planes and guides of kinds by chance: one of so many kinds has its turn.
+fn some_pairs(chance: &mut Chance, width: usize, height: usize, of: usize) {
     let kinds = kinds(chance, width, height);
-    for (name, plane) in &kinds {
+    for (name, plane) in kinds.iter().skip(chance.place(of)).step_by(of) {
         let (guide_name, guide): &Kind = &kinds[chance.place(kinds.len())];
         let pairs = pairs(width, height, plane, guide);
         let number = chance.place(pairs.len());
@@ -165,7 +168,7 @@ fn every_small_size() {
     let chance = &mut Chance(0x9e37_79b9_7f4a_7c15);
     for width in 1..=20 {
         for height in 1..=20 {
-            some_pairs(chance, width, height);
+            some_pairs(chance, width, height, 1);
         }
     }
 }
@@ -189,9 +192,9 @@ fn spikes() {
 }
 
 #[test]
-fn lines_of_every_length() {
+fn lines() {
     let chance = &mut Chance(0x0123_4567_89ab_cdef);
-    for length in 1..=2048 {
+    for length in (1..=300).chain((301..2047).step_by(13)).chain([2047, 2048]) {
         for (width, height) in [(length, 1), (1, length)] {
             compared(&random(chance, width, height), &setting(chance), "random");
         }
@@ -204,26 +207,26 @@ fn larger_planes() {
     let chance = &mut Chance(0xfedc_ba98_7654_3210);
     for length in (21..=40).chain([63, 64, 65, 127, 128, 129, 255, 256, 257]) {
         for other in [2, 3, chance.between(4, 11) as usize] {
-            some_pairs(chance, length, other);
-            some_pairs(chance, other, length);
+            some_pairs(chance, length, other, 6);
+            some_pairs(chance, other, length, 6);
         }
     }
     let sizes = [(2047, 2), (3, 2047), (2048, 5), (7, 2048), (301, 203), (129, 511), (1023, 33), (61, 67)];
     for (width, height) in sizes {
-        for ends in [NARROW, WIDE] {
-            compared(&random(chance, width, height), &Setting::of(20, ends), "random");
-            compared(&random(chance, width, height), &setting(chance), "random");
-        }
+        compared(&random(chance, width, height), &Setting::of(20, NARROW), "random");
+        compared(&random(chance, width, height), &setting(chance), "random");
     }
 }
 
+/// At two levels only: `rounds.rs` has one.
 #[test]
 fn the_largest_plane() {
     let chance = &mut Chance(0x5851_f42d_4c95_7f2d);
     let guide = chance.samples(2048 * 2048);
     let differences = (0..2048 * 2048).map(|_| chance.within(300));
     let pair = away(2048, 2048, guide, differences);
-    compared(&pair, &Setting::of(20, NARROW), "random");
+    let [_, projection] = Setting::of(20, NARROW).projections(&pair);
+    alike(&projection, &pair, "random");
 }
 
 /// Every threshold, with samples of 12 bits up to 4,095 and over the whole reach above.
