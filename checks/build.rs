@@ -1,4 +1,5 @@
-//! Tells where the engine's static library lies. Only what takes in `src/library.rs` links it.
+//! Tells where the engine's static libraries lie. Only what takes in `src/library.rs` links the one, and only what takes in
+//! `src/projections.rs` the other.
 //!
 //! For the benchmark, the feature `bench`, it also compiles the plain C, by clang and by gcc, into a library.
 
@@ -7,13 +8,15 @@ use std::path::{Path, PathBuf};
 use std::process::Command;
 
 /// The plain C, each file for one part of the engine.
-const PLAIN_C: [&str; 6] = ["bank", "estimate", "projection", "update", "rounds", "finish"];
+const PLAIN_C: [&str; 7] = ["bank", "estimate", "projection", "two_levels", "update", "rounds", "finish"];
 
 fn main() {
     let checks = var("CARGO_MANIFEST_DIR").unwrap();
     let directory = Path::new(&checks).join("../target/staticlib");
     println!("cargo::rustc-link-search=native={}", directory.display());
-    println!("cargo::rerun-if-changed={}", directory.join("libdemosaic_c.a").display());
+    for library in ["libdemosaic_c.a", "libprojection_c.a"] {
+        println!("cargo::rerun-if-changed={}", directory.join(library).display());
+    }
     if var_os("CARGO_FEATURE_BENCH").is_some() {
         plain_c(&Path::new(&checks).join("c"));
     }

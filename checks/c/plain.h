@@ -55,17 +55,20 @@ void PLAIN(project)(size_t width, size_t height, int32_t *plane, struct guide gu
 void PLAIN(project_two)(size_t width, size_t height, int32_t *plane, const uint16_t *guide, int32_t limit,
                         int32_t second_limit, int32_t least, int32_t most);
 
-/* The place that index i means in a line of n. */
+/* The place that index i means in a line of n. It lies at most 2 places outside. */
 static inline size_t reflected(size_t n, ptrdiff_t i)
 {
     ptrdiff_t last = (ptrdiff_t)n - 1;
     if (last == 0) {
         return 0;
     }
-    while (i < 0 || i > last) {
-        i = i < 0 ? -i : 2 * last - i;
+    if (i < 0) {
+        i = -i;
     }
-    return (size_t)i;
+    if (i > last) {
+        i = 2 * last - i;
+    }
+    return (size_t)(i < 0 ? -i : i);
 }
 
 /* Questions 1 and 2, from this size on. */

@@ -30,17 +30,17 @@ static inline int32_t *line_of(struct lines s, size_t number)
 /* The line of the row so far away from row r, in a ring of so many lines. */
 static inline int32_t *ring_line(struct lines s, size_t ring, size_t count, size_t r, ptrdiff_t away)
 {
-    return line_of(s, ring + reflected(s.height, (ptrdiff_t)r + away) % count);
+    return line_of(s, ring + reflected_far(s.height, (ptrdiff_t)r + away) % count);
 }
 
-/* Three and five rows of a ring, so far apart. */
+/* Three rows of a ring, so far apart. */
 static inline struct three three_rows(struct lines s, size_t ring, size_t count, size_t r, ptrdiff_t spacing)
 {
     return (struct three){ring_line(s, ring, count, r, -spacing), line_of(s, ring + r % count),
                           ring_line(s, ring, count, r, spacing)};
 }
 
-/* Five rows, from two rings of so many lines in turn. */
+/* Five rows, from two rings in turn. */
 static inline struct five crossed_rows(struct lines s, size_t outer, size_t inner, size_t count, size_t r,
                                        ptrdiff_t spacing)
 {

@@ -17,13 +17,26 @@ struct five {
     const int32_t *a, *b, *c, *d, *e;
 };
 
+/* As `reflected`, of any index. The estimates, which have none so far outside, would be slower by this loop. */
+static inline size_t reflected_far(size_t n, ptrdiff_t i)
+{
+    ptrdiff_t last = (ptrdiff_t)n - 1;
+    if (last == 0) {
+        return 0;
+    }
+    while (i < 0 || i > last) {
+        i = i < 0 ? -i : 2 * last - i;
+    }
+    return (size_t)i;
+}
+
 /* So many reflected places on either side of a line of n. */
 static inline void fill_beside(size_t n, ptrdiff_t count, int32_t *line)
 {
     ptrdiff_t end = (ptrdiff_t)n;
     for (ptrdiff_t k = 0; k < count; k++) {
-        line[-1 - k] = line[reflected(n, -1 - k)];
-        line[end + k] = line[reflected(n, end + k)];
+        line[-1 - k] = line[reflected_far(n, -1 - k)];
+        line[end + k] = line[reflected_far(n, end + k)];
     }
 }
 

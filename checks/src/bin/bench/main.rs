@@ -7,8 +7,9 @@ use bank::Bank;
 use calls::PROGRAMS;
 use checks::chance::Chance;
 use clock::least_times;
-use frame::{picture, Frame};
-use table::{Table, Times};
+use frame::Frame;
+use picture::picture;
+use table::{Table, Times, SIDES};
 
 mod bank;
 mod calls;
@@ -16,9 +17,8 @@ mod clock;
 mod frame;
 #[path = "../../library.rs"]
 mod library;
+mod picture;
 mod table;
-
-const SIDES: [usize; 3] = [256, 1024, 2048];
 
 /// The rounds and thresholds that finishing is timed with. Without rounds the threshold has nothing to do.
 const FINISHED: [(u32, u32); 5] = [(0, 20), (8, 0), (8, 20), (64, 0), (64, 20)];
@@ -86,5 +86,5 @@ fn main() {
         time_bank(&mut table, side, &mosaic);
         time_frame(&mut table, side, mosaic);
     }
-    table.print(&SIDES);
+    table.print();
 }

@@ -2,6 +2,9 @@
 
 use std::time::Duration;
 
+/// How wide and high the timed planes are, each a column of the table.
+pub const SIDES: [usize; 3] = [256, 1024, 2048];
+
 /// The library's time of a call, clang's and gcc's.
 pub type Times = [Duration; 3];
 
@@ -72,8 +75,8 @@ impl Table {
         }
     }
 
-    pub fn print(&self, sides: &[usize]) {
-        let sides = sides.iter().map(|&side| shown(side as f64)).map(|side| format!("{side} by {side}"));
+    pub fn print(&self) {
+        let sides = SIDES.map(|side| shown(side as f64)).map(|side| format!("{side} by {side}"));
         let mut heads = vec!["ns per pixel (times clang's, times gcc's)".to_string()];
         heads.extend(sides);
         println!("| {} |", heads.join(" | "));
