@@ -127,20 +127,20 @@ fn away(width: usize, height: usize, guide: Vec<u16>, differences: impl Iterator
     Pair { width, height, own, guide }
 }
 
-/// Of two kinds of samples: both as they are; the plane the opposite of the guide; guide and differences over their whole
-/// reach; the differences few.
+/// Of two kinds of samples: the plane the opposite of the guide; both as they are; guide and differences over their whole
+/// reach; the guide so and the differences small.
 fn pairs(width: usize, height: usize, plane: &[u16], guide: &[u16]) -> [Pair; 4] {
     let wide: Vec<u16> = guide.iter().map(|&sample| stretched(sample, 65_535) as u16).collect();
     let samples =
         Pair { width, height, own: plane.iter().copied().map(i32::from).collect(), guide: guide.to_vec() };
     let opposite = guide.iter().map(|&sample| 4095 - i32::from(sample)).collect();
     let reaching = plane.iter().map(|&sample| stretched(sample, 2 * REACH) - REACH);
-    let few = plane.iter().map(|&sample| i32::from(sample % 64) - 31);
+    let small = plane.iter().map(|&sample| i32::from(sample % 64) - 31);
     [
         Pair { own: opposite, ..samples.clone() },
         samples,
         away(width, height, wide.clone(), reaching),
-        away(width, height, wide, few),
+        away(width, height, wide, small),
     ]
 }
 
@@ -272,21 +272,21 @@ fn a_plane_close_to_its_guide_comes_back() {
 /// half the middle one and a quarter of each other. A half goes up. The second level has a detail from three places on.
 #[test]
 fn halves_by_hand() {
-    let cases: [(&[i32], (i32, i32), i32); 8] = [
-        (&[100, 109], (0, 0), 105),
-        (&[-100, -109], (0, 0), -104),
-        (&[-1, 0], (0, 0), 0),
-        (&[0, -3], (0, 0), -1),
-        (&[2, 0, 0], (0, 0), 1),
-        (&[-2, 0, 0], (0, 0), 0),
-        (&[-6, 0, 0], (0, 0), -1),
-        (&[-7, 0, 0], (0, 0), -2),
+    let cases: [(&[i32], i32); 8] = [
+        (&[100, 109], 105),
+        (&[-100, -109], -104),
+        (&[-1, 0], 0),
+        (&[0, -3], -1),
+        (&[2, 0, 0], 1),
+        (&[-2, 0, 0], 0),
+        (&[-6, 0, 0], -1),
+        (&[-7, 0, 0], -2),
     ];
-    for (own, limits, due) in cases {
+    for (own, due) in cases {
         let count = own.len();
         for (width, height) in [(count, 1), (1, count)] {
             let pair = Pair { width, height, own: own.to_vec(), guide: vec![0; count] };
-            let [_, two] = compared(&pair, &Setting { limits, ends: WIDE }, "by hand");
+            let [_, two] = compared(&pair, &Setting::of(0, WIDE), "by hand");
             assert_eq!(two, vec![due; count], "{own:?}, {width} by {height}");
         }
     }
