@@ -1,8 +1,10 @@
 -- The stages of a sweep. A stage that lags `lag` steps has made t − lag rows before step t, and makes one more at step t, as long as there are
 -- rows. Assumes nothing.
+use mathlib.Core.Path.{_≡_}
 use mathlib.Core.List.{List}
 use Prim.Native.Nat.{ℕ, _+_, _*_, _-_, _<_, min}
 use lib.IntN.{ℤ}
+use lib.ListN.{length}
 use Rattle.integers.specs.Lists.{overwrite}
 use Rattle.rings.specs.declared.Given.{Given}
 use Rattle.rings.specs.Rows.{slot}
@@ -22,3 +24,7 @@ row-laid lag g t l o f = overwrite l o ((reached lag (g .height) (t + 1) - reach
 -- in a ring of n slots
 unfoldable pub ring-row-laid : ℕ → ℕ → Given → ℕ → List ℤ → (ℕ → ℕ → ℤ) → List ℤ
 ring-row-laid n lag g t l rows = row-laid lag g t l (slot n (g .width) (reached lag (g .height) t)) (rows (reached lag (g .height) t))
+
+-- what is left of scratch: it is as long as it was
+abbrev pub AsLong : List ℤ → List ℤ → Type 0
+AsLong before after = length after ≡ length before

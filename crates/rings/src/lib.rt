@@ -11,7 +11,7 @@ ghost use Rattle.filters.specs.Bank.{low-split};
 ghost use Rattle.lines.specs.Lines.{Run, padded};
 ghost use Rattle.rings.specs.Planes.{reach};
 ghost use Rattle.rings.specs.Rows.{slot, slot-of, row-at, guide-at, five-slots, difference-row, Sound, ring-line, RingRows, ring-apart, ring-together};
-ghost use Rattle.rings.specs.Stages.{reached, Working, ring-row-laid};
+ghost use Rattle.rings.specs.Stages.{reached, Working, ring-row-laid, AsLong};
 
 // What a projection is given, beside the two lists.
 pub struct Given {
@@ -151,7 +151,8 @@ fn parts_row(
     details::join_along(parts, minus, plus, d, n, apart, together, r % level.slots * n);
 }
 
-// The stage of a level: a row of its joined parts. Where it made one, `low` has the row's line that is low along the columns, padded.
+// The stage of a level: a row of its joined parts. Where it made one, `low` has the row's line that is low along the columns,
+// padded; the other four lines are scratch.
 pub fn parts_stage(
     source: &[i32],
     given: Given,
@@ -172,6 +173,7 @@ pub fn parts_stage(
     ensures { λ _. ⌜ (Working (level .lag) (given .height) t → now (low .exit) ≡ padded (given .width) (level .spacing) (overwrite (now (low .entry)) (level .spacing) (given .width) (ring-line low-split given level (now (source .entry)) (reached (level .lag) (given .height) t)))) ⌝ }
     ensures { λ _. ⌜ now (apart .exit) ≡ ring-row-laid (level .slots) (level .lag) given t (now (apart .entry)) (ring-apart given level (now (source .entry))) ⌝ }
     ensures { λ _. ⌜ now (together .exit) ≡ ring-row-laid (level .slots) (level .lag) given t (now (together .entry)) (ring-together given level (now (source .entry))) ⌝ }
+    ensures { λ _. ⌜ AsLong (now (high .entry)) (now (high .exit)) × AsLong (now (parts .entry)) (now (parts .exit)) × AsLong (now (minus .entry)) (now (minus .exit)) × AsLong (now (plus .entry)) (now (plus .exit)) ⌝ }
 {
     let r = done(t, level.lag, given.height);
     if r < done(t + 1, level.lag, given.height) {

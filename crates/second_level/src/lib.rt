@@ -7,7 +7,7 @@ ghost use Rattle.lines.specs.Lines.{Run, Runs};
 ghost use Rattle.details.specs.Details.{Triple, Crossing};
 ghost use Rattle.rings.specs.Planes.{reach};
 ghost use Rattle.rings.specs.Rows.{slot, row-at, five-slots};
-ghost use Rattle.rings.specs.Stages.{reached, Working, row-laid, ring-row-laid};
+ghost use Rattle.rings.specs.Stages.{reached, Working, row-laid, ring-row-laid, AsLong};
 ghost use Rattle.second_level.specs.SecondLevel.{band-row, apart-row, together-row, rest-row, settled-row};
 
 // A row of band 1, from the line that the first level's stage left: low along the columns, padded.
@@ -44,6 +44,7 @@ pub fn merged_stage(
     ensures { λ _. ⌜ now (apart .exit) ≡ ring-row-laid 5 7 given t (now (apart .entry)) (apart-row given (now (apart1 .entry)) (now (apart2 .entry)) (now (together2 .entry))) ⌝ }
     ensures { λ _. ⌜ now (together .exit) ≡ ring-row-laid 5 7 given t (now (together .entry)) (together-row given (now (together1 .entry)) (now (apart2 .entry)) (now (together2 .entry))) ⌝ }
     ensures { λ _. ⌜ now (rests .exit) ≡ ring-row-laid 5 7 given t (now (rests .entry)) (rest-row given (now (apart2 .entry)) (now (together2 .entry))) ⌝ }
+    ensures { λ _. ⌜ AsLong (now (whole .entry)) (now (whole .exit)) × AsLong (now (rest .entry)) (now (rest .exit)) ⌝ }
 {
     let r = rings::done(t, 7, given.height);
     if r < rings::done(t + 1, 7, given.height) {
@@ -83,6 +84,7 @@ pub fn settled_stage(
     requires { ⌜ Sizes 1 (given .width) (given .height) × (t ≤ 4096) × (given .width + 8 ≤ length (now line)) ⌝ }
     requires { ⌜ (Working 9 (given .height) t → Run reach (now own) (row-at given (reached 9 (given .height) t)) (given .width) × Crossing 163577856 (now apart) (now together) (five-slots 5 1 given (reached 9 (given .height) t)) (given .width) × Runs 174762 (now rests) (five-slots 5 1 given (reached 9 (given .height) t)) (given .width)) ⌝ }
     ensures { λ _. ⌜ now (own .exit) ≡ row-laid 9 given t (now (own .entry)) (row-at given (reached 9 (given .height) t)) (settled-row given least most (now (own .entry)) (now (apart .entry)) (now (together .entry)) (now (rests .entry)) (reached 9 (given .height) t)) ⌝ }
+    ensures { λ _. ⌜ AsLong (now (line .entry)) (now (line .exit)) ⌝ }
 {
     let r = rings::done(t, 9, given.height);
     if r < rings::done(t + 1, 9, given.height) {

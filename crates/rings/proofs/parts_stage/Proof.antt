@@ -1,6 +1,6 @@
 -- `rings::parts_stage` meets its contract: its row, or none.
 -- Assumes nothing.
-use mathlib.Core.Path.{sym, _∙_, ap, subst}
+use mathlib.Core.Path.{refl, sym, _∙_, ap, subst}
 use Prim.Native.Nat.{ℕ, _<_}
 use native.Mathlib.Omega.{arith}
 use denote.Ref.{now}
@@ -82,7 +82,10 @@ returns c =
       (λ w. u .0 ∙ ap (λ (r : ℕ). padded (g .width) (v .spacing) (overwrite (now (a .low)) (v .spacing) (g .width) (ring-line low-split g v (now (a .source)) r))) f),
       (
         ring-worked (v .lag) g (a .t) f n (v .slots) i (now (a .apart)) (ring-apart g v (now (a .source))) (u .1 .0),
-        ring-worked (v .lag) g (a .t) f n (v .slots) i (now (a .together)) (ring-together g v (now (a .source))) (u .1 .1),
+        (
+          ring-worked (v .lag) g (a .t) f n (v .slots) i (now (a .together)) (ring-together g v (now (a .source))) (u .1 .1),
+          (q .parts-row .kept .1 .1 .1 .1 .1 .0, q .parts-row .kept .1 .1 .1 .1 .1 .1 .0, q .parts-row .kept .1 .1 .1 .1 .1 .1 .1 .0, q .parts-row .kept .1 .1 .1 .1 .1 .1 .1 .1 .0),
+        ),
       ),
     )
 
@@ -96,7 +99,10 @@ returns-2 c =
     let n = d .done2 .ensures in
     let none : (_ : d .before .done .result < d .done2 .result) → ⊥ = λ i. omega (arith, i, c .if1 .left) in (
       (λ w. absurd (none (omega (arith, f, n, w)))),
-      (ring-idle (v .lag) g (a .t) f n (v .slots) none (now (a .apart)) (ring-apart g v (now (a .source))), ring-idle (v .lag) g (a .t) f n (v .slots) none (now (a .together)) (ring-together g v (now (a .source)))),
+      (
+        ring-idle (v .lag) g (a .t) f n (v .slots) none (now (a .apart)) (ring-apart g v (now (a .source))),
+        (ring-idle (v .lag) g (a .t) f n (v .slots) none (now (a .together)) (ring-together g v (now (a .source))), (refl, refl, refl, refl)),
+      ),
     )
 
 pub parts-stage-spec : {M : Type 1} → statement M

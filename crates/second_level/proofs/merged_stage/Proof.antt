@@ -1,6 +1,6 @@
 -- `second_level::merged_stage` meets its contract: its row, or none. The second level is crossed, whole parts and rests, and merged along the row.
 -- Assumes nothing.
-use mathlib.Core.Path.{_≡_, sym, _∙_, subst}
+use mathlib.Core.Path.{_≡_, refl, sym, _∙_, subst}
 use Prim.Native.Nat.{ℕ, _+_, _<_}
 use native.Mathlib.Omega.{arith}
 use lib.IntN.{ℤ, _+ℤ_, _-ℤ_}
@@ -148,7 +148,7 @@ returns c =
       ring-worked 7 g (a .t) f l 5 i (now (a .apart)) (apart-row g (now (a .apart1)) a2 b2) (u .0 ∙ overwrite-cong (now (a .apart)) at n _ _ (λ k j. λ y. value (now (a .apart1)) (slot 7 n (row q) + k) -ℤ wholes k y)),
       (
         ring-worked 7 g (a .t) f l 5 i (now (a .together)) (together-row g (now (a .together1)) a2 b2) (u .1 .0 ∙ overwrite-cong (now (a .together)) at n _ _ (λ k j. λ y. value (now (a .together1)) (slot 7 n (row q) + k) +ℤ wholes k y)),
-        ring-worked 7 g (a .t) f l 5 i (now (a .rests)) (rest-row g a2 b2) (u .1 .1 ∙ overwrite-cong (now (a .rests)) at n _ _ (λ k j. rests k)),
+        (ring-worked 7 g (a .t) f l 5 i (now (a .rests)) (rest-row g a2 b2) (u .1 .1 ∙ overwrite-cong (now (a .rests)) at n _ _ (λ k j. rests k)), (same-length c, same-length-2 c)),
       ),
     )
 
@@ -163,7 +163,7 @@ returns-2 c =
     let b2 = now (a .together2) in
     let none : (_ : d .before .done .result < d .done2 .result) → ⊥ = λ i. omega (arith, i, c .if1 .left) in (
       ring-idle 7 g (a .t) f l 5 none (now (a .apart)) (apart-row g (now (a .apart1)) a2 b2),
-      (ring-idle 7 g (a .t) f l 5 none (now (a .together)) (together-row g (now (a .together1)) a2 b2), ring-idle 7 g (a .t) f l 5 none (now (a .rests)) (rest-row g a2 b2)),
+      (ring-idle 7 g (a .t) f l 5 none (now (a .together)) (together-row g (now (a .together1)) a2 b2), (ring-idle 7 g (a .t) f l 5 none (now (a .rests)) (rest-row g a2 b2), (refl, refl))),
     )
 
 pub merged-stage-spec : {M : Type 1} → statement M

@@ -1,6 +1,6 @@
 -- `second_level::settled_stage` meets its contract: its row, or none.
 -- Assumes nothing.
-use mathlib.Core.Path.{sym, _∙_, subst}
+use mathlib.Core.Path.{refl, sym, _∙_, subst}
 use Prim.Native.Nat.{ℕ, _+_, _<_}
 use native.Mathlib.Omega.{arith}
 use denote.Ref.{now}
@@ -92,8 +92,8 @@ returns c =
     let q = j .before .before in
     let a = s q .args in
     let g = a .given in
-    row-worked 9 g (a .t) (made q .before .done .ensures) (made q .done2 .ensures) (q .before .if1 .taken) (now (a .own)) (row-at g) (settled-row g (a .least) (a .most) (now (a .own)) (now (a .apart)) (now (a .together)) (now (a .rests)))
-    (settled-laid g (now (a .rests)) (found q .1) (now (a .line)) (omega (arith, s q .pre .0 .2)) (j .join-low .ensures) (back (s q .fits .least)) (back (s q .fits .most)) (row q) (q .five-slots .ensures) (now (a .own)) (now (a .apart)) (now (a .together)) (c .before .settle-line .ensures))
+    (row-worked 9 g (a .t) (made q .before .done .ensures) (made q .done2 .ensures) (q .before .if1 .taken) (now (a .own)) (row-at g) (settled-row g (a .least) (a .most) (now (a .own)) (now (a .apart)) (now (a .together)) (now (a .rests)))
+    (settled-laid g (now (a .rests)) (found q .1) (now (a .line)) (omega (arith, s q .pre .0 .2)) (j .join-low .ensures) (back (s q .fits .least)) (back (s q .fits .most)) (row q) (q .five-slots .ensures) (now (a .own)) (now (a .apart)) (now (a .together)) (c .before .settle-line .ensures)), same-length-2 c)
 
 returns-2 : tie.Need-returns-2
 returns-2 c =
@@ -101,7 +101,7 @@ returns-2 c =
     let a = begun d .args in
     let g = a .given in
     let none : (_ : d .before .done .result < d .done2 .result) → ⊥ = λ i. omega (arith, i, c .if1 .left) in
-    row-idle 9 g (a .t) (d .before .done .ensures) (d .done2 .ensures) none (now (a .own)) (row-at g (reached 9 (g .height) (a .t))) (settled-row g (a .least) (a .most) (now (a .own)) (now (a .apart)) (now (a .together)) (now (a .rests)) (reached 9 (g .height) (a .t)))
+    (row-idle 9 g (a .t) (d .before .done .ensures) (d .done2 .ensures) none (now (a .own)) (row-at g (reached 9 (g .height) (a .t))) (settled-row g (a .least) (a .most) (now (a .own)) (now (a .apart)) (now (a .together)) (now (a .rests)) (reached 9 (g .height) (a .t))), refl)
 
 pub settled-stage-spec : {M : Type 1} → statement M
 settled-stage-spec =

@@ -32,8 +32,8 @@ use Rattle.rings.proofs.Rings.{Held, held-none, held-next, held-own, run-here, 
 use Rattle.rings.proofs.Parts.{parts-ready, line-is, apart-next, together-next}
 use Rattle.rings.proofs.Planes.{with-rows, with-none, with-all, row-ready, row-own, row-next}
 use Rattle.second_level.specs.SecondLevel.{band-row, low-row, apart-row, together-row, rest-row, settled-row}
-use Rattle.two_levels.specs.TwoLevels.{limits, with-projected}
-use Rattle.two_levels.proofs.Sums.{band-plane, crossed-plane, merged-apart, merged-together, rest-plane, settled-plane, settled-projected}
+use Rattle.two_level_rows.specs.TwoLevels.{limits, with-projected}
+use Rattle.two_level_rows.proofs.Sums.{band-plane, crossed-plane, merged-apart, merged-together, rest-plane, settled-plane, settled-projected}
 
 -- the two levels of this sweep
 abbrev pub first-level : Given → Level
