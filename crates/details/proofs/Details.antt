@@ -1,19 +1,24 @@
 -- The laws of what lies outside a limit, and of what the projection's sums read and how large they grow. Assumes nothing.
 use mathlib.Core.Path.{_≡_, refl, sym, _∙_, ap, subst}
-use mathlib.Core.List.{List}
-use Prim.Native.Nat.{ℕ, _+_, _*_, _≤_, _<_}
+use mathlib.Core.Bool.{true, false}
+use mathlib.Core.List.{List, [], _∷_}
+use Prim.Native.Nat.{ℕ, suc, _+_, _*_, _-_, _≤_, _<_}
+use native.Mathlib.Decide.{decLt}
 use native.Mathlib.Nat.{zero-add}
 use native.Mathlib.Omega.{arith}
 use lib.Dec.{T}
-use lib.IntN.{ℤ, pos, natAbs}
+use lib.IntN.{ℤ, pos, negsuc, negℤ, natAbs, _+ℤ_, _-ℤ_, +ℤ-idl, +ℤ-idr}
 use lib.ListN.{length}
-use lib.Signed.{nonNeg}
+use lib.Signed.{ltZ, nonNeg}
+use borrow.Author.Tests.{le-ltb}
 use mir.Syntax.{w32}
 use mir.Val.{toZ, ofZ}
 use mir.Facts.{toZ-ofZ as back}
 use Rattle.integers.specs.Lists.{overwrite}
 use Rattle.integers.proofs.Lists.{overwrite-cong}
-use Rattle.integers.proofs.Bounds.{fits-abs}
+use Rattle.integers.proofs.Bounds.{fits-abs, minus-pos, minus-neg}
+use Rattle.integers.proofs.Tests.{never}
+use Rattle.integers.proofs.Linear.{linear, neg, x₀, x₁, _⊕_, _⊖_}
 use Rattle.planes.specs.Lists.{value}
 use Rattle.filters.specs.Bank.{Taps, weighted, low-split, high-split, high-join}
 use Rattle.filters.proofs.Ranges.{gain, weighted-range}
@@ -21,8 +26,42 @@ use Rattle.lines.specs.declared.Five.{Five}
 use Rattle.lines.specs.Lines.{Run, spaced, three, padded}
 use Rattle.lines.proofs.Lines.{run-wider, read-small, three-small, three-read, three-range, three-runs, three-along, five-runs, five-places}
 use Rattle.projection.specs.Fast.{excess, outer-part, crossed-along}
-use Rattle.projection.proofs.Outside.{excess-bound}
-use Rattle.details.specs.Details.{Triple, outer, from-place, crossed, Crossing}
+use Rattle.projection.proofs.Outside.{excess-pos, excess-negsuc, excess-bound}
+use Rattle.details.specs.Details.{above-zero, below-zero, Triple, outer, from-place, crossed, Crossing}
+
+-- ---- what lies outside a limit, as a sum of two
+not-under-zero : (a : ℕ) → ltZ (pos a) (pos 0) ≡ false
+not-under-zero a = le-ltb a 0 (omega arith)
+
+pub excess-parts : (limit z : ℤ) → T (nonNeg limit) → above-zero (z -ℤ limit) +ℤ below-zero (z +ℤ limit) ≡ excess limit z
+excess-parts (negsuc m) z s = absurd s
+excess-parts (pos m) (pos a) s = go (decLt a m) ∙ sym (excess-pos m a)
+  where
+    go : Dec (a < m) → above-zero (pos a -ℤ pos m) +ℤ below-zero (pos a +ℤ pos m) ≡ pos (a - m)
+    go (yes h) = unfold above-zero below-zero in (λ i. above-zero (minus-neg a m h i) +ℤ pos 0) ∙ ap pos (let e : 0 ≡ a - m = omega arith in e)
+    go (no h) = unfold above-zero below-zero in (λ i. above-zero (minus-pos a m (omega arith) i) +ℤ pos 0) ∙ +ℤ-idr (pos (a - m))
+excess-parts (pos m) (negsuc a) s = ap (λ x. above-zero x +ℤ below-zero (negsuc a +ℤ pos m)) under ∙ ap (λ x. above-zero (negsuc (a + m)) +ℤ below-zero x) back-by ∙ go (decLt m (suc a)) ∙ sym (excess-negsuc m a)
+  where
+    under : negsuc a -ℤ pos m ≡ negsuc (a + m)
+    under = linear (pos (suc a) ∷ pos m ∷ []) (neg x₀ ⊖ x₁) (neg (x₀ ⊕ x₁)) tt ∙ ap (λ (k : ℕ). negℤ (pos k)) (let e : suc a + m ≡ suc (a + m) = omega arith in e)
+
+    back-by : negsuc a +ℤ pos m ≡ pos m -ℤ pos (suc a)
+    back-by = linear (pos (suc a) ∷ pos m ∷ []) (neg x₀ ⊕ x₁) (x₁ ⊖ x₀) tt
+
+    go : Dec (m < suc a) → above-zero (negsuc (a + m)) +ℤ below-zero (pos m -ℤ pos (suc a)) ≡ negℤ (pos (suc a - m))
+    go (yes h) = unfold above-zero below-zero in (λ i. pos 0 +ℤ below-zero (minus-neg m (suc a) h i)) ∙ +ℤ-idl (negsuc (suc a - suc m)) ∙ ap (λ (k : ℕ). negℤ (pos k)) (let e : suc (suc a - suc m) ≡ suc a - m = omega arith in e)
+    go (no h) = unfold above-zero below-zero in (λ i. pos 0 +ℤ below-zero (minus-pos m (suc a) (omega arith) i)) ∙ ap (λ (k : ℕ). negℤ (pos k)) (let e : 0 ≡ suc a - m = omega arith in e)
+
+-- by the one test, whatever the machine reads
+pub above-zero-is : (x : ℤ) → (ltZ x (pos 0) ≡ true → pos 0 ≡ above-zero x) × (ltZ x (pos 0) ≡ false → x ≡ above-zero x)
+unfolding above-zero
+above-zero-is (pos a) = (λ e. never (sym e ∙ not-under-zero a), λ e. refl)
+above-zero-is (negsuc a) = (λ e. refl, λ e. never e)
+
+pub below-zero-is : (x : ℤ) → (ltZ x (pos 0) ≡ true → x ≡ below-zero x) × (ltZ x (pos 0) ≡ false → pos 0 ≡ below-zero x)
+unfolding below-zero
+below-zero-is (pos a) = (λ e. never (sym e ∙ not-under-zero a), λ e. refl)
+below-zero-is (negsuc a) = (λ e. refl, λ e. never e)
 
 -- ---- what the machine reads of a list
 abbrev read : List ℤ → ℕ → ℤ

@@ -2,7 +2,7 @@
 -- parts are joined to. Assumes nothing.
 use mathlib.Core.List.{List}
 use Prim.Native.Nat.{ℕ, _+_, _*_}
-use lib.IntN.{ℤ, pos, _+ℤ_, _-ℤ_, _*ℤ_}
+use lib.IntN.{ℤ, pos, negsuc, _+ℤ_, _-ℤ_, _*ℤ_}
 use lib.ListN.{getD}
 use Rattle.planes.specs.Lists.{value}
 use Rattle.filters.specs.Bank.{Taps, weighted, low-split, high-split, high-join, rescaled}
@@ -24,6 +24,15 @@ pub record Triple (m : ℕ) (line : List ℤ) (d n : ℕ) : Type 0 where
   pub first : Run m line 0 n
   pub second : Run m line d n
   pub third : Run m line (2 * d) n
+
+-- what of a number lies above 0, and what below
+unfoldable pub above-zero : ℤ → ℤ
+above-zero (pos a) = pos a
+above-zero (negsuc a) = pos 0
+
+unfoldable pub below-zero : ℤ → ℤ
+below-zero (pos a) = pos 0
+below-zero (negsuc a) = negsuc a
 
 -- what of a split filter's value lies outside the limit
 unfoldable pub outer : Taps → ℤ → ℕ → List ℤ → ℕ → ℤ

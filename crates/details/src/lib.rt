@@ -9,7 +9,7 @@ ghost use Rattle.planes.specs.Lists.{InRow, value};
 ghost use Rattle.filters.specs.Bank.{Distance, low-split, high-split, high-join, along};
 ghost use Rattle.lines.specs.Lines.{Run, spaced, padded};
 ghost use Rattle.projection.specs.Fast.{excess as outside, outer-part, crossed-along};
-ghost use Rattle.details.specs.Details.{difference-line, Triple, outer, outer-minus, outer-plus, from-place, crossed, Crossing, joined-apart, joined-together, settled};
+ghost use Rattle.details.specs.Details.{difference-line, above-zero, below-zero, Triple, outer, outer-minus, outer-plus, from-place, crossed, Crossing, joined-apart, joined-together, settled};
 
 // A value less the guide's sample.
 fn difference(x: i32, guide: u16) -> i32
@@ -40,18 +40,26 @@ pub fn difference_line(
     }
 }
 
-// The part of z outside −limit..limit.
+// What of x lies above 0.
+fn above_zero(x: i32) -> i32
+    ensures { λ r. ⌜ r ≡ above-zero x ⌝ }
+{
+    if x < 0 { 0 } else { x }
+}
+
+// And below it.
+fn below_zero(x: i32) -> i32
+    ensures { λ r. ⌜ r ≡ below-zero x ⌝ }
+{
+    if x < 0 { x } else { 0 }
+}
+
+// The part of z outside −limit..limit. A sum of two takes fewer operations on vectors than a choice of three.
 fn excess(limit: i32, z: i32) -> i32
     requires { ⌜ Distance limit × (natAbs z ≤ 536870912) ⌝ }
     ensures { λ r. ⌜ r ≡ outside limit z ⌝ }
 {
-    if z < 0 - limit {
-        return z + limit;
-    }
-    if limit < z {
-        return z - limit;
-    }
-    0
+    above_zero(z - limit) + below_zero(z + limit)
 }
 
 // What of the high split filter's value lies outside the limit, at place k along a padded line of n.
