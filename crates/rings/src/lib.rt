@@ -148,7 +148,16 @@ fn parts_row(
     let below = slot_after(given, level.source, r, d);
     lines::split_line(source, above, here, below, n, low, high, d);
     details::outer_along(low, high, level.limit, d, n, parts, minus, plus);
-    details::join_along(parts, minus, plus, d, n, apart, together, r % level.slots * n);
+    details::join_along(
+        parts,
+        minus,
+        plus,
+        d,
+        n,
+        apart,
+        together,
+        r % level.slots * n,
+    );
 }
 
 // The stage of a level: a row of its joined parts. Where it made one, `low` has the row's line that is low along the columns,
@@ -177,6 +186,18 @@ pub fn parts_stage(
 {
     let r = done(t, level.lag, given.height);
     if r < done(t + 1, level.lag, given.height) {
-        parts_row(source, given, level, r, low, high, parts, minus, plus, apart, together);
+        parts_row(
+            source,
+            given,
+            level,
+            r,
+            low,
+            high,
+            parts,
+            minus,
+            plus,
+            apart,
+            together,
+        );
     }
 }

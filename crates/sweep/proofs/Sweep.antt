@@ -87,8 +87,8 @@ module _ (g : Given) (least most : ℤ) (own : List ℤ) (guide : List ℕ) wher
       settled-ready room-a room-b i = (
         row-ready g own settled-plane guide p 3 t is i,
         crossing-rows g 3 t i 5 1 2 (omega arith) (omega arith) (omega arith) aparts togethers room-a room-b 134217728
-        (λ r c j k. le-trans (apart-plane-range (g .limit) 1 w h D (p .limit .sign) reach (p .sizes .width-from) (p .sizes .height-from) d-small r c) (omega arith))
-        (λ r c j k. le-trans (together-plane-range (g .limit) 1 w h D (p .limit .sign) reach (p .sizes .width-from) (p .sizes .height-from) d-small r c) (omega arith)) 1 (omega arith),
+            (λ r c j k. le-trans (apart-plane-range (g .limit) 1 w h D (p .limit .sign) reach (p .sizes .width-from) (p .sizes .height-from) d-small r c) (omega arith))
+            (λ r c j k. le-trans (together-plane-range (g .limit) 1 w h D (p .limit .sign) reach (p .sizes .width-from) (p .sizes .height-from) d-small r c) (omega arith)) 1 (omega arith),
       )
 
       pub settled-next : {out : List ℤ} → out ≡ row-laid 3 g t now (row-at g (reached 3 h t)) (settled-row g least most now apart together (reached 3 h t)) → out ≡ with-rows g own settled-plane (reached 3 h (t + 1))

@@ -6,7 +6,14 @@ ghost use Rattle.two_level_rows.specs.TwoLevels.{with-projected};
 
 // The plane's details at the first level held within the guide's ± given.limit, band 1's within ± second_limit, and the plane brought back to
 // least..most. The two ends stand beside the record, as they do in `sweep::project`.
-pub fn project(own: &mut [i32], guide: &[u16], given: rings::Given, second_limit: i32, least: i32, most: i32)
+pub fn project(
+    own: &mut [i32],
+    guide: &[u16],
+    given: rings::Given,
+    second_limit: i32,
+    least: i32,
+    most: i32,
+)
     requires { ⌜ Projectable given (now own) (now guide) × Distance «second_limit» ⌝ }
     ensures { λ _. ⌜ now (own .exit) ≡ with-projected given «second_limit» least most (now (own .entry)) (now (guide .entry)) ⌝ }
 {

@@ -91,9 +91,11 @@ returns c =
     let j = joined (c .before .before) in
     let q = j .before .before in
     let a = s q .args in
-    let g = a .given in
-    (row-worked 9 g (a .t) (made q .before .done .ensures) (made q .done2 .ensures) (q .before .if1 .taken) (now (a .own)) (row-at g) (settled-row g (a .least) (a .most) (now (a .own)) (now (a .apart)) (now (a .together)) (now (a .rests)))
-    (settled-laid g (now (a .rests)) (found q .1) (now (a .line)) (omega (arith, s q .pre .0 .2)) (j .join-low .ensures) (back (s q .fits .least)) (back (s q .fits .most)) (row q) (q .five-slots .ensures) (now (a .own)) (now (a .apart)) (now (a .together)) (c .before .settle-line .ensures)), same-length-2 c)
+    let g = a .given in (
+      row-worked 9 g (a .t) (made q .before .done .ensures) (made q .done2 .ensures) (q .before .if1 .taken) (now (a .own)) (row-at g) (settled-row g (a .least) (a .most) (now (a .own)) (now (a .apart)) (now (a .together)) (now (a .rests)))
+          (settled-laid g (now (a .rests)) (found q .1) (now (a .line)) (omega (arith, s q .pre .0 .2)) (j .join-low .ensures) (back (s q .fits .least)) (back (s q .fits .most)) (row q) (q .five-slots .ensures) (now (a .own)) (now (a .apart)) (now (a .together)) (c .before .settle-line .ensures)),
+      same-length-2 c,
+    )
 
 returns-2 : tie.Need-returns-2
 returns-2 c =

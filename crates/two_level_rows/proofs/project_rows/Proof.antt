@@ -141,7 +141,7 @@ parts-stage-requires c κs =
       (projectable s .sizes, step l, subst Sound e (first-sound (g s) (second s) (least s) (most s) (now (s .args .own)) (now (s .args .guide)) (projectable s) (distance s))),
       (
         (λ i. subst (λ (x : Level). RingRows (g s) x (ring d) (reached 1 (g s .height) (l .loop .t))) e
-        (first-ready (g s) (second s) (least s) (most s) (now (s .args .own)) (now (s .args .guide)) (projectable s) (distance s) (l .loop .t) (ring-held d) (as-long (ring-kept d) (s .pre .1 .0 .0)) i)),
+            (first-ready (g s) (second s) (least s) (most s) (now (s .args .own)) (now (s .args .guide)) (projectable s) (distance s) (l .loop .t) (ring-held d) (as-long (ring-kept d) (s .pre .1 .0 .0)) i)),
         (
           (as-long (v .12) (z .0), as-long (v .13) (z .1), as-long (v .14) (z .2), as-long (v .15) (z .3), as-long (v .16) (z .4)),
           (as-long (v .5) (s .pre .1 .0 .2), as-long (v .6) (s .pre .1 .0 .3)),
