@@ -8,6 +8,9 @@ use lib.Dec.{T}
 use lib.IntN.{ℤ, pos, natAbs, _+ℤ_, _-ℤ_}
 use lib.ListN.{length}
 use lib.Signed.{nonNeg}
+use mir.Syntax.{w64}
+use mir.Val.{Fits}
+use borrow.Author.Needs.{scaled-fits}
 use Rattle.integers.specs.Lists.{overwrite}
 use Rattle.integers.proofs.Lists.{overwrite-in, overwrite-cong}
 use Rattle.planes.specs.Lists.{value}
@@ -25,8 +28,15 @@ use Rattle.rings.specs.Planes.{band-reach}
 use Rattle.rings.specs.Rows.{slot, slot-of, ring-line, RingRows}
 
 -- ---- a row has room in its slot
+-- in slot i of n, which the machine can count to
+pub slot-inside : (i n w l : ℕ) → i < n → n * w ≤ l → i * w + w ≤ l
+slot-inside i n w l h fit = omega (arith, row-room w n i h, mul-comm w n)
+
+pub slot-fits : (i w : ℕ) → i < 9 → w ≤ 2048 → Fits w64 (i * w)
+slot-fits i w h k = scaled-fits i 9 w h (omega arith)
+
 pub slot-room : (n w q : ℕ) → 1 ≤ n → slot n w q + w ≤ n * w
-slot-room n w q some = omega (arith, row-room w n (q % n) (mod-lt q some), mul-comm w n)
+slot-room n w q some = slot-inside (q % n) n w (n * w) (mod-lt q some) (omega arith)
 
 -- ---- a row of joined parts, as the calls leave it
 -- what was laid down is a run, where its values are small

@@ -10,7 +10,7 @@ use Rattle.planes.specs.Lists.{InRow}
 use Rattle.lines.proofs.Lines.{run-wider}
 use Rattle.details.specs.Details.{difference-line}
 use Rattle.rings.specs.Rows.{slot, row-at, guide-at}
-use Rattle.rings.proofs.Rows.{slot-room}
+use Rattle.rings.proofs.Rows.{slot-inside, slot-fits}
 use borrow.Author.Needs.{needs}
 use Rattle.rings.proofs.difference_row.Statement.{statement}
 use Rattle.rings.proofs.difference_row.Tie as tie
@@ -18,10 +18,6 @@ use Rattle.rings.proofs.difference_row.Tie as tie
 -- where the slot is known
 abbrev begun : tie.After-struct-known4 → tie.Start
 begun c = c .before .before .before .before .before
-
--- the row has room in its slot
-room : (s : tie.Start) → let g = s .args .given in slot 3 (g .width) (s .args .r) + g .width ≤ length (now (s .args .ring))
-room s = omega (arith, slot-room 3 (s .args .given .width) (s .args .r) (omega arith), s .pre .1 .1)
 
 mul-row : tie.Need-mul-row
 mul-row c = search needs
@@ -40,19 +36,19 @@ add-guide-row c =
     omega (arith, s .pre .0 .1 .inside 0 (s .pre .1 .0 .width-from))
 
 mul-slot : tie.Need-mul-slot
-mul-slot c = let s = c .before .before .before .before in omega (arith, room s)
+mul-slot c = slot-fits _ _ (omega arith) (c .before .before .before .before .pre .1 .0 .width-to)
 
 difference-line-requires : tie.Need-difference-line-requires
 difference-line-requires c κs =
     let s = begun (c .before .before) in
     let g = s .args .given in
     let one : g .across ≡ 1 = c .before .if1 .taken in
-    (run-wider (omega arith) (s .pre .0 .0), subst (InRow (now (s .args .guide)) (guide-at g (s .args .r)) (g .width)) one (s .pre .0 .1), room s)
+    (run-wider (omega arith) (s .pre .0 .0), subst (InRow (now (s .args .guide)) (guide-at g (s .args .r)) (g .width)) one (s .pre .0 .1), slot-inside _ 3 _ _ (omega arith) (s .pre .1 .1))
 
 difference-line-requires-2 : tie.Need-difference-line-requires-2
 difference-line-requires-2 c κs =
     let s = begun (c .before .before) in
-    (run-wider (omega arith) (s .pre .0 .0), s .pre .0 .1, room s)
+    (run-wider (omega arith) (s .pre .0 .0), s .pre .0 .1, slot-inside _ 3 _ _ (omega arith) (s .pre .1 .1))
 
 same-length : tie.Need-same-length
 same-length c = search needs

@@ -3,7 +3,7 @@
 use Prim.Native.Nat.{ℕ, _<_}
 use native.Mathlib.Omega.{arith}
 use denote.Ref.{now}
-use Rattle.rings.proofs.Rows.{slot-room}
+use Rattle.rings.proofs.Rows.{slot-inside, slot-fits}
 use Rattle.rings.proofs.Stages.{working, ring-worked, ring-idle}
 use Rattle.second_level.specs.SecondLevel.{band-row}
 use borrow.Author.Needs.{needs}
@@ -24,10 +24,7 @@ abbrev begun : tie.After-done2 → tie.Start
 begun c = c .before .before
 
 mul-band-line : tie.Need-mul-band-line
-mul-band-line c =
-    let d = c .before .before in
-    let s = begun d in
-    omega (arith, slot-room 5 (s .args .given .width) (d .before .done .result) (omega arith), s .pre .0 .0 .width-to)
+mul-band-line c = slot-fits _ _ (omega arith) (begun (c .before .before) .pre .0 .0 .width-to)
 
 band-line-requires : tie.Need-band-line-requires
 band-line-requires c κs =
@@ -35,7 +32,7 @@ band-line-requires c κs =
     let d = t .before in
     let s = begun d in
     let g = s .args .given in
-    (s .pre .1 (working 1 g (s .args .t) (d .before .done .ensures) (d .done2 .ensures) (t .if1 .taken)), omega (arith, slot-room 5 (g .width) (d .before .done .result) (omega arith), s .pre .0 .2))
+    (s .pre .1 (working 1 g (s .args .t) (d .before .done .ensures) (d .done2 .ensures) (t .if1 .taken)), slot-inside _ 5 _ _ (omega arith) (s .pre .0 .2))
 
 same-length : tie.Need-same-length
 same-length c = search needs

@@ -12,7 +12,7 @@ use Rattle.lines.specs.Lines.{Run}
 use Rattle.details.specs.Details.{Crossing}
 use Rattle.nested_floor.specs.NestedFloor.{whole, rest}
 use Rattle.rings.specs.Rows.{slot, five-slots}
-use Rattle.rings.proofs.Rows.{slot-room}
+use Rattle.rings.proofs.Rows.{slot-inside, slot-fits}
 use Rattle.rings.proofs.Stages.{working, at-row, ring-worked, ring-idle}
 use Rattle.second_level.specs.SecondLevel.{apart-row, together-row, rest-row}
 use Rattle.second_level.proofs.SecondLevel.{whole-run, rest-run, low-joined}
@@ -79,14 +79,10 @@ cross-rest-requires : tie.Need-cross-rest-requires
 cross-rest-requires c κs = let q = c .before .before .before .before in (crossing q, omega (arith, s q .pre .1 .1 .0 .1))
 
 mul-from : tie.Need-mul-from
-mul-from c =
-    let q = found c in
-    omega (arith, slot-room 7 (s q .args .given .width) (row q) (omega arith), s q .pre .0 .0 .width-to)
+mul-from c = slot-fits _ _ (omega arith) (s (found c) .pre .0 .0 .width-to)
 
 mul-at : tie.Need-mul-at
-mul-at c =
-    let q = found c in
-    omega (arith, slot-room 5 (s q .args .given .width) (row q) (omega arith), s q .pre .0 .0 .width-to)
+mul-at c = slot-fits _ _ (omega arith) (s (found c) .pre .0 .0 .width-to)
 
 merge-along-requires : tie.Need-merge-along-requires
 merge-along-requires c κs =
@@ -97,7 +93,6 @@ merge-along-requires c κs =
     let g = a .given in
     let w = x .before .before .before .before .cross-whole in
     let z = x .before .cross-rest in
-    let room = slot-room 5 (g .width) (row q) (omega arith) in
     let lines = p .1 .1 .0 in
     let rings = p .1 .1 .1 in (
       (
@@ -108,7 +103,7 @@ merge-along-requires c κs =
         whole-run (g .width) (now (a .whole)) (omega (arith, lines .0)) (crossing q) (w .ensures),
         rest-run (g .width) (now (a .rest)) (omega (arith, lines .1)) (now (a .apart2)) (now (a .together2)) (q .five-slots .result) (z .ensures),
       ),
-      (ready q .1, ready q .2, omega (arith, room, rings .0), omega (arith, room, rings .1), omega (arith, room, rings .2)),
+      (ready q .1, ready q .2, slot-inside _ 5 _ _ (omega arith) (rings .0), slot-inside _ 5 _ _ (omega arith) (rings .1), slot-inside _ 5 _ _ (omega arith) (rings .2)),
     )
 
 same-length : tie.Need-same-length
