@@ -1,4 +1,4 @@
-//! A plain reference program for the engine, written from document 01 alone.
+//! A plain reference program for the engine, written from documents 01 and 02 alone.
 //!
 //! It follows the document's words and not the engine's code, so that a mistake in one is not a mistake in both. It is slow
 //! and simple: what it answers is compared with what the engine answers.
