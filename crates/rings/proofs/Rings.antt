@@ -12,12 +12,11 @@ use Rattle.integers.proofs.Lists.{overwrite-in}
 use Rattle.border.specs.Border.{reflect}
 use Rattle.border.proofs.Reflection.{reflect-lt, reflect-inside, reflect-before, reflect-after}
 use Rattle.planes.specs.Lists.{value}
-use Rattle.filters.specs.Bank.{Taps, weighted, tap, along, along-columns, high-join}
-use Rattle.filters.proofs.Taps.{weighted-three}
+use Rattle.filters.specs.Bank.{Taps, weighted, tap, along, high-join}
 use Rattle.lines.specs.Lines.{Run, five}
 use Rattle.lines.proofs.Lines.{outside}
 use Rattle.projection.specs.Fast.{crossed-along}
-use Rattle.details.specs.Details.{Crossing, crossed}
+use Rattle.details.specs.Details.{Crossing}
 use Rattle.rings.specs.declared.Given.{Given}
 use Rattle.rings.specs.Rows.{slot, slot-of, five-slots}
 use Rattle.rings.specs.Stages.{reached, Working, ring-row-laid}

@@ -1,7 +1,7 @@
 -- The stages' rows as the calls leave them. Assumes nothing.
 use mathlib.Core.Path.{_≡_, sym, _∙_, ap}
 use mathlib.Core.List.{List}
-use Prim.Native.Nat.{ℕ, _+_, _*_, _≤_, _<_}
+use Prim.Native.Nat.{ℕ, _+_, _≤_}
 use native.Mathlib.Nat.{le-trans, zero-add}
 use native.Mathlib.Omega.{arith}
 use lib.IntN.{ℤ}

@@ -1,6 +1,6 @@
 -- The planes that the stages make, row by row, and that they are the bank's sums: the second level's joined sum taken apart by 1,024, both levels
 -- merged, and the whole settled. Assumes nothing.
-use mathlib.Core.Path.{_≡_, refl, sym, _∙_, ap, fun-ext}
+use mathlib.Core.Path.{_≡_, sym, _∙_, ap, fun-ext}
 use mathlib.Core.List.{[], _∷_}
 use Prim.Native.Nat.{ℕ, _*_, _<_}
 use lib.IntN.{ℤ, pos, _+ℤ_, _-ℤ_, _*ℤ_}

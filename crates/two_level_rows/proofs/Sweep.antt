@@ -1,19 +1,18 @@
 -- The sweep of two levels: what the rings hold before step t, one law for each stage, and that the plane is the projected one. Assumes nothing.
-use mathlib.Core.Path.{_≡_, refl, _∙_, ap}
+use mathlib.Core.Path.{_≡_, refl, _∙_}
 use mathlib.Core.List.{List}
 use Prim.Native.Nat.{ℕ, _+_, _*_, _/_, _%_, _≤_, _<_}
 use native.Mathlib.Nat.{mul-le-mul-right, le-trans}
 use native.Mathlib.Omega.{arith}
-use lib.IntN.{ℤ, pos, natAbs, _+ℤ_, _-ℤ_}
+use lib.IntN.{ℤ, natAbs, _+ℤ_, _-ℤ_}
 use lib.ListN.{length}
 use Rattle.integers.specs.Lists.{overwrite}
 use Rattle.integers.proofs.Lists.{length-overwrite, overwrite-cong}
 use Rattle.integers.proofs.Bounds.{abs-add, abs-sub}
-use Rattle.planes.specs.Lists.{value}
 use Rattle.planes.proofs.Planes.{row-inside, column-inside}
 use Rattle.filters.specs.Bank.{Distance, along, along-columns, low-split, low-join}
 use Rattle.filters.proofs.Ranges.{gain, along-range}
-use Rattle.lines.specs.Lines.{Run, Runs, three, padded}
+use Rattle.lines.specs.Lines.{Run, Runs, padded}
 use Rattle.lines.proofs.Lines.{three-along}
 use Rattle.projection.specs.Fast.{difference}
 use Rattle.projection.proofs.Parts.{apart-plane, together-plane, apart-plane-range, together-plane-range, along-inside, crossed-range, four}

@@ -1,9 +1,8 @@
 -- `rings::difference_row` meets its contract: the row's places are found, and the differences laid down there.
 -- Assumes nothing.
 use mathlib.Core.Path.{_≡_, sym, _∙_, ap, subst}
-use Prim.Native.Nat.{ℕ, _+_, _≤_}
+use Prim.Native.Nat.{ℕ}
 use native.Mathlib.Omega.{arith}
-use lib.ListN.{length}
 use denote.Ref.{now}
 use Rattle.integers.specs.Lists.{overwrite}
 use Rattle.planes.specs.Lists.{InRow}

@@ -1,6 +1,6 @@
 -- `second_level::band_stage` meets its contract: its row, or none.
 -- Assumes nothing.
-use Prim.Native.Nat.{ℕ, _<_}
+use Prim.Native.Nat.{_<_}
 use native.Mathlib.Omega.{arith}
 use denote.Ref.{now}
 use Rattle.rings.proofs.Rows.{slot-inside, slot-fits}

@@ -1,6 +1,6 @@
 -- `second_level::merged_stage` meets its contract: its row, or none. The second level is crossed, whole parts and rests, and merged along the row.
 -- Assumes nothing.
-use mathlib.Core.Path.{_≡_, refl, sym, _∙_, subst}
+use mathlib.Core.Path.{refl, sym, _∙_, subst}
 use Prim.Native.Nat.{ℕ, _+_, _<_}
 use native.Mathlib.Omega.{arith}
 use lib.IntN.{ℤ, _+ℤ_, _-ℤ_}
@@ -13,7 +13,7 @@ use Rattle.details.specs.Details.{Crossing}
 use Rattle.nested_floor.specs.NestedFloor.{whole, rest}
 use Rattle.rings.specs.Rows.{slot, five-slots}
 use Rattle.rings.proofs.Rows.{slot-inside, slot-fits}
-use Rattle.rings.proofs.Stages.{working, at-row, ring-worked, ring-idle}
+use Rattle.rings.proofs.Stages.{working, ring-worked, ring-idle}
 use Rattle.second_level.specs.SecondLevel.{apart-row, together-row, rest-row}
 use Rattle.second_level.proofs.SecondLevel.{whole-run, rest-run, low-joined}
 use borrow.Author.Needs.{needs}

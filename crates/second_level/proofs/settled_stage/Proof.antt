@@ -1,7 +1,7 @@
 -- `second_level::settled_stage` meets its contract: its row, or none.
 -- Assumes nothing.
-use mathlib.Core.Path.{refl, sym, _∙_, subst}
-use Prim.Native.Nat.{ℕ, _+_, _<_}
+use mathlib.Core.Path.{refl, sym, subst}
+use Prim.Native.Nat.{ℕ, _<_}
 use native.Mathlib.Omega.{arith}
 use denote.Ref.{now}
 use mir.Facts.{toZ-ofZ as back}

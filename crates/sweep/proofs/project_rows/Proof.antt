@@ -13,7 +13,7 @@ use mir.Facts.{toZ-ofZ as back}
 use Rattle.integers.proofs.Bounds.{fits-abs}
 use Rattle.rings.specs.declared.Level.{Level}
 use Rattle.rings.specs.Rows.{Sound, RingRows, ring-apart, ring-together}
-use Rattle.rings.specs.Stages.{reached, Working, ring-row-laid}
+use Rattle.rings.specs.Stages.{reached, ring-row-laid}
 use Rattle.rings.proofs.Rings.{Held}
 use Rattle.rings.proofs.Planes.{difference-ready, difference-next}
 use Rattle.projection.specs.Fast.{difference}

@@ -1,11 +1,9 @@
 -- `sweep::settled_stage` meets its contract: its row, or none.
 -- Assumes nothing.
 use mathlib.Core.Path.{sym, _∙_, subst}
-use Prim.Native.Nat.{ℕ, _+_, _*_, _<_}
+use Prim.Native.Nat.{ℕ, _+_, _<_}
 use native.Mathlib.Omega.{arith}
 use denote.Ref.{now}
-use mir.Syntax.{w32}
-use mir.Val.{toZ, ofZ}
 use mir.Facts.{toZ-ofZ as back}
 use Rattle.integers.specs.Lists.{overwrite}
 use Rattle.lines.specs.declared.Five.{Five}
@@ -14,7 +12,7 @@ use Rattle.planes.specs.Lists.{value}
 use Rattle.details.specs.Details.{Crossing, crossed, settled}
 use Rattle.rings.specs.Planes.{reach}
 use Rattle.rings.specs.Rows.{row-at, five-slots}
-use Rattle.rings.specs.Stages.{reached, row-laid}
+use Rattle.rings.specs.Stages.{reached}
 use Rattle.rings.proofs.Stages.{working, row-worked, row-idle}
 use Rattle.sweep.specs.Sweep.{settled-row}
 use borrow.Author.Needs.{needs}
