@@ -160,29 +160,29 @@ module _ (q : tie.After-parts-stage Inv-loop μ-loop) where
   abbrev line : List ℤ
   line = q .parts-stage .last .1 .1 .1 .1 .0
 
-  abbrev ap1 : List ℤ
-  ap1 = q .parts-stage .last .1 .1 .1 .1 .1 .1 .1 .1 .1 .0
+  abbrev aparts1 : List ℤ
+  aparts1 = q .parts-stage .last .1 .1 .1 .1 .1 .1 .1 .1 .1 .0
 
-  abbrev to1 : List ℤ
-  to1 = q .parts-stage .last .1 .1 .1 .1 .1 .1 .1 .1 .1 .1 .0
+  abbrev togethers1 : List ℤ
+  togethers1 = q .parts-stage .last .1 .1 .1 .1 .1 .1 .1 .1 .1 .1 .0
 
-  ap1-kept : length ap1 ≡ length (now (s d .args .apart1))
-  ap1-kept = q .parts-stage .kept .1 .1 .1 .1 .1 .1 .1 .1 .1 .0 ∙ turn d .loop .inv .5
+  aparts1-kept : length aparts1 ≡ length (now (s d .args .apart1))
+  aparts1-kept = q .parts-stage .kept .1 .1 .1 .1 .1 .1 .1 .1 .1 .0 ∙ turn d .loop .inv .5
 
-  to1-kept : length to1 ≡ length (now (s d .args .together1))
-  to1-kept = q .parts-stage .kept .1 .1 .1 .1 .1 .1 .1 .1 .1 .1 .0 ∙ turn d .loop .inv .6
+  togethers1-kept : length togethers1 ≡ length (now (s d .args .together1))
+  togethers1-kept = q .parts-stage .kept .1 .1 .1 .1 .1 .1 .1 .1 .1 .1 .0 ∙ turn d .loop .inv .6
 
-  ap1-held : Held (g (s d)) 7 1 ap1 (of (s d) A1) (t + 1)
-  ap1-held =
+  aparts1-held : Held (g (s d)) 7 1 aparts1 (of (s d) A1) (t + 1)
+  aparts1-held =
       let v = turn d .loop .inv in
       apart1-next (g (s d)) (second (s d)) (least (s d)) (most (s d)) (now (s d .args .own)) (now (s d .args .guide)) (projectable (s d)) (distance (s d)) t (ring-held d) (turn d .loop .apart1) (as-long (v .5) (s d .pre .1 .0 .2)) (v .1 .aparts1)
-      (subst (λ (x : Level). ap1 ≡ ring-row-laid 7 1 (g (s d)) t (turn d .loop .apart1) (ring-apart (g (s d)) x (ring d))) (first-is (s d)) (q .parts-stage .ensures .1 .0))
+      (subst (λ (x : Level). aparts1 ≡ ring-row-laid 7 1 (g (s d)) t (turn d .loop .apart1) (ring-apart (g (s d)) x (ring d))) (first-is (s d)) (q .parts-stage .ensures .1 .0))
 
-  to1-held : Held (g (s d)) 7 1 to1 (of (s d) B1) (t + 1)
-  to1-held =
+  togethers1-held : Held (g (s d)) 7 1 togethers1 (of (s d) B1) (t + 1)
+  togethers1-held =
       let v = turn d .loop .inv in
       together1-next (g (s d)) (second (s d)) (least (s d)) (most (s d)) (now (s d .args .own)) (now (s d .args .guide)) (projectable (s d)) (distance (s d)) t (ring-held d) (turn d .loop .together1) (as-long (v .6) (s d .pre .1 .0 .3)) (v .1 .togethers1)
-      (subst (λ (x : Level). to1 ≡ ring-row-laid 7 1 (g (s d)) t (turn d .loop .together1) (ring-together (g (s d)) x (ring d))) (first-is (s d)) (q .parts-stage .ensures .1 .1 .0))
+      (subst (λ (x : Level). togethers1 ≡ ring-row-laid 7 1 (g (s d)) t (turn d .loop .together1) (ring-together (g (s d)) x (ring d))) (first-is (s d)) (q .parts-stage .ensures .1 .1 .0))
 
   line-is : Working 1 (g (s d) .height) t → line ≡ padded (g (s d) .width) 1 (overwrite (turn d .loop .low) 1 (g (s d) .width) (ring-line low-split (g (s d)) (first-level (g (s d))) (ring d) (reached 1 (g (s d) .height) t)))
   line-is i = subst (λ (x : Level). line ≡ padded (g (s d) .width) 1 (overwrite (turn d .loop .low) 1 (g (s d) .width) (ring-line low-split (g (s d)) x (ring d) (reached 1 (g (s d) .height) t)))) (first-is (s d)) (q .parts-stage .ensures .0 i)
@@ -259,25 +259,25 @@ module _ (u : tie.After-parts-stage2 Inv-loop μ-loop) where
   abbrev x : tie.Start Inv-loop μ-loop
   x = b n
 
-  abbrev ap2 : List ℤ
-  ap2 = u .parts-stage2 .last .1 .1 .1 .1 .1 .1 .1 .1 .1 .0
+  abbrev aparts2 : List ℤ
+  aparts2 = u .parts-stage2 .last .1 .1 .1 .1 .1 .1 .1 .1 .1 .0
 
-  abbrev to2 : List ℤ
-  to2 = u .parts-stage2 .last .1 .1 .1 .1 .1 .1 .1 .1 .1 .1 .0
+  abbrev togethers2 : List ℤ
+  togethers2 = u .parts-stage2 .last .1 .1 .1 .1 .1 .1 .1 .1 .1 .1 .0
 
-  ap2-kept : length ap2 ≡ length (now (x .args .apart2))
-  ap2-kept = u .parts-stage2 .kept .1 .1 .1 .1 .1 .1 .1 .1 .1 .0 ∙ l n .loop .inv .7
+  aparts2-kept : length aparts2 ≡ length (now (x .args .apart2))
+  aparts2-kept = u .parts-stage2 .kept .1 .1 .1 .1 .1 .1 .1 .1 .1 .0 ∙ l n .loop .inv .7
 
-  to2-kept : length to2 ≡ length (now (x .args .together2))
-  to2-kept = u .parts-stage2 .kept .1 .1 .1 .1 .1 .1 .1 .1 .1 .1 .0 ∙ l n .loop .inv .8
+  togethers2-kept : length togethers2 ≡ length (now (x .args .together2))
+  togethers2-kept = u .parts-stage2 .kept .1 .1 .1 .1 .1 .1 .1 .1 .1 .1 .0 ∙ l n .loop .inv .8
 
-  ap2-held : Held (g x) 9 3 ap2 (of x A2) (l n .loop .t + 1)
-  ap2-held =
+  aparts2-held : Held (g x) 9 3 aparts2 (of x A2) (l n .loop .t + 1)
+  aparts2-held =
       let v = l n .loop .inv in
       apart2-next (g x) (second x) (least x) (most x) (now (x .args .own)) (now (x .args .guide)) (projectable x) (distance x) (l n .loop .t) (bands-held n) (l n .loop .apart2) (as-long (v .7) (x .pre .1 .0 .4)) (v .1 .aparts2) (u .parts-stage2 .ensures .1 .0)
 
-  to2-held : Held (g x) 9 3 to2 (of x B2) (l n .loop .t + 1)
-  to2-held =
+  togethers2-held : Held (g x) 9 3 togethers2 (of x B2) (l n .loop .t + 1)
+  togethers2-held =
       let v = l n .loop .inv in
       together2-next (g x) (second x) (least x) (most x) (now (x .args .own)) (now (x .args .guide)) (projectable x) (distance x) (l n .loop .t) (bands-held n) (l n .loop .together2) (as-long (v .8) (x .pre .1 .0 .5)) (v .1 .togethers2) (u .parts-stage2 .ensures .1 .1 .0)
 
@@ -291,7 +291,7 @@ merged-stage-requires c κs =
     let z = y .pre .1 .1 in (
       (projectable y .sizes, step m),
       (
-        merged-ready (g y) (second y) (least y) (most y) (now (y .args .own)) (now (y .args .guide)) (projectable y) (distance y) (m .loop .t) (ap2-held u) (to2-held u) (ap1-held (q (n u))) (to1-held (q (n u))) (as-long (ap2-kept u) (r .4)) (as-long (to2-kept u) (r .5)) (as-long (ap1-kept (q (n u))) (r .2)) (as-long (to1-kept (q (n u))) (r .3)),
+        merged-ready (g y) (second y) (least y) (most y) (now (y .args .own)) (now (y .args .guide)) (projectable y) (distance y) (m .loop .t) (aparts2-held u) (togethers2-held u) (aparts1-held (q (n u))) (togethers1-held (q (n u))) (as-long (aparts2-kept u) (r .4)) (as-long (togethers2-kept u) (r .5)) (as-long (aparts1-kept (q (n u))) (r .2)) (as-long (togethers1-kept (q (n u))) (r .3)),
         (
           (as-long (u .parts-stage2 .kept .1 .1 .1 .1 .0 ∙ low-kept (n u)) (z .1 .0), as-long (u .parts-stage2 .kept .1 .1 .1 .1 .1 .0 ∙ high-kept (n u)) (z .1 .1)),
           (as-long (v .9) (z .0 .0), as-long (v .10) (z .0 .1), as-long (v .11) (z .0 .2)),
@@ -310,41 +310,41 @@ module _ (w : tie.After-merged-stage Inv-loop μ-loop) where
   abbrev m : tie.At-loop Inv-loop μ-loop
   m = l (n u)
 
-  abbrev ap : List ℤ
-  ap = w .merged-stage .last .1 .1 .1 .1 .1 .1 .1 .1 .0
+  abbrev aparts : List ℤ
+  aparts = w .merged-stage .last .1 .1 .1 .1 .1 .1 .1 .1 .0
 
-  abbrev to : List ℤ
-  to = w .merged-stage .last .1 .1 .1 .1 .1 .1 .1 .1 .1 .0
+  abbrev togethers : List ℤ
+  togethers = w .merged-stage .last .1 .1 .1 .1 .1 .1 .1 .1 .1 .0
 
-  abbrev re : List ℤ
-  re = w .merged-stage .last .1 .1 .1 .1 .1 .1 .1 .1 .1 .1 .0
+  abbrev rests : List ℤ
+  rests = w .merged-stage .last .1 .1 .1 .1 .1 .1 .1 .1 .1 .1 .0
 
-  ap-kept : length ap ≡ length (now (y .args .apart))
-  ap-kept = w .merged-stage .kept .1 .1 .1 .1 .1 .1 .1 .1 .0 ∙ m .loop .inv .9
+  aparts-kept : length aparts ≡ length (now (y .args .apart))
+  aparts-kept = w .merged-stage .kept .1 .1 .1 .1 .1 .1 .1 .1 .0 ∙ m .loop .inv .9
 
-  to-kept : length to ≡ length (now (y .args .together))
-  to-kept = w .merged-stage .kept .1 .1 .1 .1 .1 .1 .1 .1 .1 .0 ∙ m .loop .inv .10
+  togethers-kept : length togethers ≡ length (now (y .args .together))
+  togethers-kept = w .merged-stage .kept .1 .1 .1 .1 .1 .1 .1 .1 .1 .0 ∙ m .loop .inv .10
 
-  re-kept : length re ≡ length (now (y .args .rests))
-  re-kept = w .merged-stage .kept .1 .1 .1 .1 .1 .1 .1 .1 .1 .1 .0 ∙ m .loop .inv .11
+  rests-kept : length rests ≡ length (now (y .args .rests))
+  rests-kept = w .merged-stage .kept .1 .1 .1 .1 .1 .1 .1 .1 .1 .1 .0 ∙ m .loop .inv .11
 
   line-kept : length (w .merged-stage .last .1 .1 .1 .1 .1 .1 .0) ≡ length (now (y .args .low))
   line-kept = w .merged-stage .kept .1 .1 .1 .1 .1 .1 .0 ∙ u .parts-stage2 .kept .1 .1 .1 .1 .0 ∙ low-kept (n u)
 
-  ap-held : Held (g y) 5 7 ap (of y A) (m .loop .t + 1)
-  ap-held =
+  aparts-held : Held (g y) 5 7 aparts (of y A) (m .loop .t + 1)
+  aparts-held =
       let v = m .loop .inv in
-      merged-apart-next (g y) (second y) (least y) (most y) (now (y .args .own)) (now (y .args .guide)) (projectable y) (distance y) (m .loop .t) (ap2-held u) (to2-held u) (ap1-held (q (n u))) (m .loop .apart) (as-long (v .9) (y .pre .1 .1 .0 .0)) (v .1 .aparts) (w .merged-stage .ensures .0)
+      merged-apart-next (g y) (second y) (least y) (most y) (now (y .args .own)) (now (y .args .guide)) (projectable y) (distance y) (m .loop .t) (aparts2-held u) (togethers2-held u) (aparts1-held (q (n u))) (m .loop .apart) (as-long (v .9) (y .pre .1 .1 .0 .0)) (v .1 .aparts) (w .merged-stage .ensures .0)
 
-  to-held : Held (g y) 5 7 to (of y B) (m .loop .t + 1)
-  to-held =
+  togethers-held : Held (g y) 5 7 togethers (of y B) (m .loop .t + 1)
+  togethers-held =
       let v = m .loop .inv in
-      merged-together-next (g y) (second y) (least y) (most y) (now (y .args .own)) (now (y .args .guide)) (projectable y) (distance y) (m .loop .t) (ap2-held u) (to2-held u) (to1-held (q (n u))) (m .loop .together) (as-long (v .10) (y .pre .1 .1 .0 .1)) (v .1 .togethers) (w .merged-stage .ensures .1 .0)
+      merged-together-next (g y) (second y) (least y) (most y) (now (y .args .own)) (now (y .args .guide)) (projectable y) (distance y) (m .loop .t) (aparts2-held u) (togethers2-held u) (togethers1-held (q (n u))) (m .loop .together) (as-long (v .10) (y .pre .1 .1 .0 .1)) (v .1 .togethers) (w .merged-stage .ensures .1 .0)
 
-  re-held : Held (g y) 5 7 re (of y R) (m .loop .t + 1)
-  re-held =
+  rests-held : Held (g y) 5 7 rests (of y R) (m .loop .t + 1)
+  rests-held =
       let v = m .loop .inv in
-      rests-next (g y) (second y) (least y) (most y) (now (y .args .own)) (now (y .args .guide)) (projectable y) (distance y) (m .loop .t) (ap2-held u) (to2-held u) (m .loop .rests) (as-long (v .11) (y .pre .1 .1 .0 .2)) (v .1 .rests) (w .merged-stage .ensures .1 .1 .0)
+      rests-next (g y) (second y) (least y) (most y) (now (y .args .own)) (now (y .args .guide)) (projectable y) (distance y) (m .loop .t) (aparts2-held u) (togethers2-held u) (m .loop .rests) (as-long (v .11) (y .pre .1 .1 .0 .2)) (v .1 .rests) (w .merged-stage .ensures .1 .1 .0)
 
 settled-stage-requires : tie.Need-settled-stage-requires Inv-loop μ-loop
 settled-stage-requires c κs =
@@ -352,7 +352,7 @@ settled-stage-requires c κs =
     let o = y w in
     let z = o .pre .1 .1 in (
       (projectable o .sizes, step (m w), as-long (line-kept w) (z .1 .0)),
-      settled-ready (g o) (second o) (least o) (most o) (now (o .args .own)) (now (o .args .guide)) (projectable o) (distance o) (m w .loop .t) (m w .loop .inv .1 .plane) (ap-held w) (to-held w) (re-held w) (as-long (ap-kept w) (z .0 .0)) (as-long (to-kept w) (z .0 .1)) (as-long (re-kept w) (z .0 .2)),
+      settled-ready (g o) (second o) (least o) (most o) (now (o .args .own)) (now (o .args .guide)) (projectable o) (distance o) (m w .loop .t) (m w .loop .inv .1 .plane) (aparts-held w) (togethers-held w) (rests-held w) (as-long (aparts-kept w) (z .0 .0)) (as-long (togethers-kept w) (z .0 .1)) (as-long (rests-kept w) (z .0 .2)),
     )
 
 -- where a step ends
@@ -375,27 +375,27 @@ loop-again c =
     let v = m w .loop .inv in (
       omega (arith, taken (d f)),
       record {
-        plane = settled-next (g o) (second o) (least o) (most o) (now (o .args .own)) (now (o .args .guide)) (projectable o) (distance o) (m w .loop .t) (v .1 .plane) (ap-held w) (to-held w) (re-held w) (e .settled-stage .ensures .0);
+        plane = settled-next (g o) (second o) (least o) (most o) (now (o .args .own)) (now (o .args .guide)) (projectable o) (distance o) (m w .loop .t) (v .1 .plane) (aparts-held w) (togethers-held w) (rests-held w) (e .settled-stage .ensures .0);
         differences = ring-held (d f);
         bands = bands-held (n k);
-        aparts1 = ap1-held f;
-        togethers1 = to1-held f;
-        aparts2 = ap2-held k;
-        togethers2 = to2-held k;
-        aparts = ap-held w;
-        togethers = to-held w;
-        rests = re-held w;
+        aparts1 = aparts1-held f;
+        togethers1 = togethers1-held f;
+        aparts2 = aparts2-held k;
+        togethers2 = togethers2-held k;
+        aparts = aparts-held w;
+        togethers = togethers-held w;
+        rests = rests-held w;
       },
       e .settled-stage .kept .0 ∙ v .2,
       ring-kept (d f),
       bands-kept (n k),
-      ap1-kept f,
-      to1-kept f,
-      ap2-kept k,
-      to2-kept k,
-      ap-kept w,
-      to-kept w,
-      re-kept w,
+      aparts1-kept f,
+      togethers1-kept f,
+      aparts2-kept k,
+      togethers2-kept k,
+      aparts-kept w,
+      togethers-kept w,
+      rests-kept w,
       e .settled-stage .kept .1 .1 .1 .1 .1 .1 .0 ∙ line-kept w,
       w .merged-stage .kept .1 .1 .1 .1 .1 .1 .1 .0 ∙ k .parts-stage2 .kept .1 .1 .1 .1 .1 .0 ∙ high-kept (n k),
       k .parts-stage2 .kept .1 .1 .1 .1 .1 .1 .0 ∙ parts-kept (n k),
