@@ -91,7 +91,7 @@ module _ (d : tie.After-difference-stage Inv-loop μ-loop) where
   at = turn (d .before)
 
   taken : at .loop .t < begun at .args .given .height + 3
-  taken = d .before .before .before .loop-test .taken
+  taken = omega (arith, d .before .before .before .loop-test .taken)
 
   ring-room : 3 * begun at .args .given .width ≤ length (d .difference-stage .last .1 .1 .1 .1 .0)
   ring-room = as-long (d .difference-stage .kept .1 .1 .1 .1 .0 ∙ at .loop .inv .3) (begun at .pre .0 .1)

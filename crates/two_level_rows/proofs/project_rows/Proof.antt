@@ -120,7 +120,7 @@ module _ (d : tie.After-difference-stage Inv-loop μ-loop) where
   ring = d .difference-stage .last .1 .1 .1 .1 .0
 
   taken : turn d .loop .t < g s .height + 9
-  taken = d .before .before .before .loop-test .taken
+  taken = omega (arith, d .before .before .before .loop-test .taken)
 
   ring-kept : length ring ≡ length (now (s .args .differences))
   ring-kept = d .difference-stage .kept .1 .1 .1 .1 .0 ∙ turn d .loop .inv .3
