@@ -20,8 +20,9 @@ extern "C" {
  * would C still cut them.
  *
  * Buffers. Each is a pointer and how many numbers it has (never how many bytes, but for bytes). Mosaics, planes and
- * bands are width * height numbers, row by row. The work buffer may hold anything before; after an accepted call its
- * first 8 * width * height numbers hold 0 and the rest is untouched.
+ * bands are width * height numbers, row by row. The work buffer, and the wide one of a two-level frame, may hold anything
+ * before; after an accepted call the first 8 * width * height numbers of each hold 0 and the rest is untouched. A call
+ * with a one-level frame neither asks for a wide work buffer nor touches it: NULL with length 0 will do.
  *
  * NULL. A buffer may be NULL where its length is 0. A pointer to a single number may never be NULL.
  *
@@ -29,13 +30,13 @@ extern "C" {
  *   - each pointer is aligned for its type, and valid for its length or its one number;
  *   - what a call writes (buffers and numbers behind pointers that are not const) overlaps nothing else that the call
  *     is given, and nobody else reads or writes it meanwhile;
- *   - a call may need 160 KiB of stack.
+ *   - a call may need 160 KiB of stack, and the rounds or the finishing of a two-level frame 512 KiB.
  * The calls keep nothing and share nothing: several threads may call at once, each with buffers of its own.
  */
 
 /* 4 follows the customer's own versions one to three; the second is the last request of document 02 that is in it. */
 #define DEMOSAIC_VERSION_MAJOR 4
-#define DEMOSAIC_VERSION_MINOR 0
+#define DEMOSAIC_VERSION_MINOR 1
 
 /*
  * ---- Questions
@@ -49,7 +50,7 @@ enum demosaic_refusal {
     DEMOSAIC_REFUSED_STORE_LENGTH = 11,     /* the store has 12 bytes or more? */
     DEMOSAIC_REFUSED_WIDTH = 1,             /* the width is 2 to 2,048? (1 to 2,048 in the filter bank) */
     DEMOSAIC_REFUSED_HEIGHT = 2,            /* the height is 2 to 2,048? (1 to 2,048 in the filter bank) */
-    DEMOSAIC_REFUSED_LAYOUT = 3,            /* the layout is 0 to 3? */
+    DEMOSAIC_REFUSED_LAYOUT = 3,            /* the layout is 0 to 7? */
     DEMOSAIC_REFUSED_ROUNDS = 4,            /* the rounds are at most 64? */
     DEMOSAIC_REFUSED_THRESHOLD = 5,         /* the threshold is at most 4,095? */
     DEMOSAIC_REFUSED_DISTANCE = 12,         /* the packet's distance back is 2 * width * height + 12? */
@@ -57,6 +58,7 @@ enum demosaic_refusal {
     DEMOSAIC_REFUSED_GIVEN_LENGTH = 6,      /* what is given has exactly width * height numbers? */
     DEMOSAIC_REFUSED_FILLED_LENGTH = 7,     /* what is filled (in the rounds, each plane) has exactly width * height? */
     DEMOSAIC_REFUSED_WORK_LENGTH = 8,       /* the work buffer has at least 8 * width * height numbers? */
+    DEMOSAIC_REFUSED_WIDE_WORK_LENGTH = 18, /* the wide work buffer of a two-level frame likewise? */
     DEMOSAIC_REFUSED_SAMPLE = 9,            /* the samples of the mosaic, or of the packet, are at most 4,095 each? */
     DEMOSAIC_REFUSED_PLANE_SAMPLE = 10,     /* the samples of the planes that are given are at most 4,095 each? */
     DEMOSAIC_REFUSED_BANK_VALUE = 15,       /* the values are in the filter bank's range? */
@@ -81,6 +83,7 @@ static inline const char *demosaic_refusal_text(uint32_t number)
     case DEMOSAIC_REFUSED_GIVEN_LENGTH: return "a given buffer's length is not width * height";
     case DEMOSAIC_REFUSED_FILLED_LENGTH: return "a filled buffer's length is not width * height";
     case DEMOSAIC_REFUSED_WORK_LENGTH: return "work buffer too short";
+    case DEMOSAIC_REFUSED_WIDE_WORK_LENGTH: return "wide work buffer too short";
     case DEMOSAIC_REFUSED_SAMPLE: return "a sample out of range";
     case DEMOSAIC_REFUSED_PLANE_SAMPLE: return "a plane's sample out of range";
     case DEMOSAIC_REFUSED_BANK_VALUE: return "a value out of the filter bank's range";
@@ -101,18 +104,29 @@ static inline const char *demosaic_refusal_text(uint32_t number)
 
 /*
  * A layout: the colours of rows 0 and 1 at columns 0 and 1, which repeat all over the mosaic. Blue has the other
- * parity than red in row and in column, all else is green.
+ * parity than red in row and in column, all else is green. 4 more means the same colours, and rounds with two levels
+ * of the filter bank, which settle in fewer rounds; estimates and green update are the same.
  */
 enum demosaic_layout {
     DEMOSAIC_RGGB = 0, /* red on even rows and even columns */
     DEMOSAIC_GRBG = 1, /* red on even rows and odd columns */
     DEMOSAIC_GBRG = 2, /* red on odd rows and even columns */
-    DEMOSAIC_BGGR = 3  /* red on odd rows and odd columns */
+    DEMOSAIC_BGGR = 3, /* red on odd rows and odd columns */
+    DEMOSAIC_RGGB_TWO_LEVELS = 4,
+    DEMOSAIC_GRBG_TWO_LEVELS = 5,
+    DEMOSAIC_GBRG_TWO_LEVELS = 6,
+    DEMOSAIC_BGGR_TWO_LEVELS = 7
 };
 
-/* How many bytes the packet of a frame has, and how many numbers its work buffer has at least. */
+/* How many bytes the packet of a frame has. */
 #define DEMOSAIC_PACKET_BYTES(width, height) (2 * (size_t)(width) * (size_t)(height) + 12)
+
+/*
+ * How many numbers its work buffer has at least, and the wide one if the frame has two levels: 128 MiB and 256 MiB at
+ * 2,048 by 2,048.
+ */
 #define DEMOSAIC_WORK_LEN(width, height) (8 * (size_t)(width) * (size_t)(height))
+#define DEMOSAIC_WIDE_WORK_LEN(width, height) (8 * (size_t)(width) * (size_t)(height))
 
 /*
  * ---- Packets
@@ -179,12 +193,13 @@ uint32_t demosaic_then_another(uint32_t turn, uint32_t next, uint32_t *single);
 
 /*
  * Finishes a frame into three planes, which may hold anything before. Asks 1, 2, 3, 4, 5, 6 (the mosaic), 7 (each
- * plane), 8, 9. A frame that was turned has the same answer, and each of its planes is the frame's plane turned alike.
+ * plane), 8, 18 (two levels), 9. A frame that was turned has the same answer, and each of its planes is the frame's
+ * plane turned alike.
  */
 uint32_t demosaic_finish(size_t width, size_t height, uint32_t layout, uint32_t rounds, uint32_t threshold,
                          const uint16_t *mosaic, size_t mosaic_len, uint16_t *red, size_t red_len,
                          uint16_t *green, size_t green_len, uint16_t *blue, size_t blue_len,
-                         int32_t *work, size_t work_len);
+                         int32_t *work, size_t work_len, int64_t *wide_work, size_t wide_work_len);
 
 /*
  * The tally: frames finished, frames refused, rounds run. The caller holds the three counts, at first 0, and takes the
@@ -215,13 +230,15 @@ uint32_t demosaic_update(size_t width, size_t height, uint32_t layout, const uin
 
 /*
  * Runs the rounds on three planes: red and blue are rewritten in place, green stays. Each round splits a colour, holds
- * its details within 16 * threshold of green's, joins and brings back, and then puts the observed samples in; with 0
- * rounds no plane changes. Asks 1, 2, 3, 4, 5, 6 (the mosaic), 7 (each plane), 8, 9, 10 (each plane).
+ * its details within 16 * threshold of green's, joins and brings back, and then puts the observed samples in. With two
+ * levels band 1 is split again, with the taps two places apart, its details are held within 256 * threshold of green's,
+ * and it is joined before the rest; only the whole is brought back. With 0 rounds no plane changes. Asks 1, 2, 3, 4, 5,
+ * 6 (the mosaic), 7 (each plane), 8, 18 (two levels), 9, 10 (each plane).
  */
 uint32_t demosaic_rounds(size_t width, size_t height, uint32_t layout, uint32_t rounds, uint32_t threshold,
                          const uint16_t *mosaic, size_t mosaic_len, uint16_t *red, size_t red_len,
                          const uint16_t *green, size_t green_len, uint16_t *blue, size_t blue_len,
-                         int32_t *work, size_t work_len);
+                         int32_t *work, size_t work_len, int64_t *wide_work, size_t wide_work_len);
 
 /*
  * ---- The filter bank

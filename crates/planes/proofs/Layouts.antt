@@ -1,8 +1,11 @@
--- The laws of layouts: red's parities, and the layout that has them. Assumes nothing.
+-- The laws of layouts: red's parities, the layout that has them, and the level that both have. Assumes nothing.
 use mathlib.Core.Path.{_≡_}
-use Prim.Native.Nat.{ℕ, _<_}
+use Prim.Native.Nat.{ℕ, _+_, _/_, _<_}
 use native.Mathlib.Omega.{arith}
-use Rattle.planes.specs.Layout.{red-row, red-column, with-parities}
+use lib.Dec.{leb, leb→le}
+use borrow.Author.Tests.{le-leb}
+use Rattle.integers.proofs.Tests.{same-test, true-is}
+use Rattle.planes.specs.Layout.{red-row, red-column, two-levels, with-parities}
 
 pub row-lt : (l : ℕ) → red-row l < 2
 unfolding red-row
@@ -27,3 +30,26 @@ parities-again l a b r c ha hb = omega arith
 pub own-parities : (l : ℕ) → with-parities l (red-row l) (red-column l) ≡ l
 unfolding with-parities red-row red-column
 own-parities l = omega arith
+
+-- ---- the level
+-- red's parities are those of the layout less 4
+pub row-less : (l : ℕ) → red-row (4 + l) ≡ red-row l
+unfolding red-row
+row-less l = omega arith
+
+pub column-less : (l : ℕ) → red-column (4 + l) ≡ red-column l
+unfolding red-column
+column-less l = omega arith
+
+-- the level is what a layout has above them
+pub same-level : (l m : ℕ) → l / 4 ≡ m / 4 → two-levels l ≡ two-levels m
+unfolding two-levels
+same-level l m e =
+    same-test (leb 4 l) (leb 4 m)
+    (λ t. let k = leb→le 4 l t in true-is (le-leb 4 m (omega (arith, e, k))))
+    (λ t. let k = leb→le 4 m t in true-is (le-leb 4 l (omega (arith, e, k))))
+
+-- so a layout with other parities has the same
+pub level-with : (l r c : ℕ) → r < 2 → c < 2 → two-levels (with-parities l r c) ≡ two-levels l
+unfolding with-parities
+level-with l r c hr hc = same-level _ _ (omega arith)

@@ -1,15 +1,19 @@
 -- Document 01, "Frame, layout, border": which colour sits where. Counting starts at 0. Assumes nothing.
 use mathlib.Core.Bool.{Bool, true, false}
 use Prim.Native.Nat.{ℕ, _+_, _*_, _/_, _%_}
-use lib.Dec.{eqb}
+use lib.Dec.{eqb, leb}
 
 -- Red sits on even rows and even columns in layout 0, even rows and odd columns in 1, odd rows and even columns in 2, odd and
--- odd in 3: the parity of its rows, and of its columns.
+-- odd in 3; in 4 to 7 as in that layout less 4: the parity of its rows, and of its columns.
 unfoldable pub red-row : ℕ → ℕ
 red-row layout = layout / 2 % 2
 
 unfoldable pub red-column : ℕ → ℕ
 red-column layout = layout % 2
+
+-- Document 02: "a layout byte of 4 to 7 means that layout less 4, with two levels" of the bank.
+unfoldable pub two-levels : ℕ → Bool
+two-levels layout = leb 4 layout
 
 -- whether a row, or a column, has red's parity
 unfoldable pub on-red-row : ℕ → ℕ → Bool
@@ -31,6 +35,7 @@ by-parity false false = blue
 unfoldable pub colour : ℕ → ℕ → ℕ → Colour
 colour layout r c = by-parity (on-red-row layout r) (on-red-column layout c)
 
--- The layout with these parities of red's rows and columns. (What is above 3 stays, so that the laws ask no bound.)
+-- The layout with these parities of red's rows and columns, and the 4 kept. (Of a larger number all that is above 3 is, so that the laws ask
+-- no bound.)
 unfoldable pub with-parities : ℕ → ℕ → ℕ → ℕ
 with-parities layout row column = 4 * (layout / 4) + (2 * row + column)

@@ -121,10 +121,10 @@ sizes-is least w h y =
 -- 1, 2 and 3 of a frame answered yes
 pub record Shape (w h l : ℕ) : Type 0 where
   pub sizes : Sizes 2 w h
-  pub layout-to : l ≤ 3
+  pub layout-to : l ≤ 7
 
 pub shape-is : (w h l : ℕ) → AllYes (shape-questions w h l) → Shape w h l
-shape-is w h l y = record { sizes = sizes-is 2 w h (y .0, (y .1 .0, tt)); layout-to = leb-true l 3 (y .1 .1 .0) }
+shape-is w h l y = record { sizes = sizes-is 2 w h (y .0, (y .1 .0, tt)); layout-to = leb-true l 7 (y .1 .1 .0) }
 
 -- where n is what a check of 1, 2 and then qs answered
 pub sizes-known : (least w h : ℕ) (qs : List Question) (n : ℕ) → n ≡ ask (size-questions least w h ++ qs) → T (numbered qs) → n ≡ 0 → Sizes least w h

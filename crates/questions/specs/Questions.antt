@@ -31,9 +31,9 @@ all-at-most top (x ∷ xs) = leb x top && all-at-most top xs
 abbrev pub size-questions : ℕ → ℕ → ℕ → List Question
 size-questions least width height = question 1 (between least 2048 width) ∷ question 2 (between least 2048 height) ∷ []
 
--- 1 and 2 of a frame, and 3 layout 0 to 3
+-- 1 and 2 of a frame, and 3 layout 0 to 7
 abbrev pub shape-questions : ℕ → ℕ → ℕ → List Question
-shape-questions width height layout = size-questions 2 width height ++ (question 3 (leb layout 3) ∷ [])
+shape-questions width height layout = size-questions 2 width height ++ (question 3 (leb layout 7) ∷ [])
 
 -- 4 rounds at most 64, and 5 threshold at most the ceiling
 abbrev pub settings-questions : Settings → List Question

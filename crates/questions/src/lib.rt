@@ -2,10 +2,11 @@
 // answered no, or 0.
 ghost use mathlib.Core.Path.{_≡_};
 ghost use Prim.Native.Nat.{max, _≤_};
+ghost use Rattle.planes.specs.Layout.{two-levels};
 ghost use Rattle.planes.specs.Planes.{frame};
 ghost use Rattle.questions.specs.Settings.{rounds-of, ceiling-of};
 ghost use Rattle.questions.specs.Questions.{ask, all-at-most, size-questions, shape-questions, settings-questions, frame-questions};
-ghost use Rattle.questions.specs.Lent.{rooms, buffer-questions, lent-questions};
+ghost use Rattle.questions.specs.Lent.{rooms, wide-enough, buffer-questions, lent-questions};
 ghost use Rattle.questions.specs.Calls.{number-of-answer};
 
 // A frame's settings. Its width, height and layout are not among them: they turn, and settings do not.
@@ -75,7 +76,7 @@ pub fn shape(width: usize, height: usize, layout: u8) -> u32
     if number != 0 {
         return number;
     }
-    if 3 < layout {
+    if 7 < layout {
         return 3;
     }
     0
@@ -125,18 +126,38 @@ pub fn samples_within(top: u16, samples: &[u16]) -> bool
     most <= top
 }
 
-// Questions 6, 7, 8 and 9, where a plane has `count` samples and `top` is the ceiling.
+// Whether a frame of this layout has two levels.
+pub fn two_levels(layout: u8) -> bool
+    ensures { λ r. ⌜ r ≡ two-levels layout ⌝ }
+{
+    4 <= layout
+}
+
+// Question 18, where a plane has `count` samples and the wide work buffer `room` numbers. One level does not ask it.
+fn wide_enough(two: bool, count: usize, room: usize) -> bool
+    requires { ⌜ count ≤ 4194304 ⌝ }
+    ensures { λ r. ⌜ r ≡ wide-enough two count room ⌝ }
+{
+    if !two {
+        return true;
+    }
+    8 * count <= room
+}
+
+// Questions 6, 7, 8, 18 and 9, where a plane has `count` samples and `top` is the ceiling.
 fn buffers_refusal(
     top: u16,
+    two: bool,
     count: usize,
     mosaic: &[u16],
     red_room: usize,
     green_room: usize,
     blue_room: usize,
     room: usize,
+    wide_room: usize,
 ) -> u32
     requires { ⌜ count ≤ 4194304 ⌝ }
-    ensures { λ r. ⌜ r ≡ ask (buffer-questions top count (now (mosaic .entry)) (rooms «red_room» «green_room» «blue_room» room)) ⌝ }
+    ensures { λ r. ⌜ r ≡ ask (buffer-questions top two count (now (mosaic .entry)) (rooms «red_room» «green_room» «blue_room» room «wide_room»)) ⌝ }
 {
     if mosaic.len() != count {
         return 6;
@@ -154,13 +175,16 @@ fn buffers_refusal(
     if room < needed {
         return 8;
     }
+    if !wide_enough(two, count, wide_room) {
+        return 18;
+    }
     if !samples_within(top, mosaic) {
         return 9;
     }
     0
 }
 
-// Questions 1 to 9.
+// Questions 1 to 9, and 18 after 8.
 pub fn lent_refusal(
     width: usize,
     height: usize,
@@ -171,8 +195,9 @@ pub fn lent_refusal(
     green_room: usize,
     blue_room: usize,
     room: usize,
+    wide_room: usize,
 ) -> u32
-    ensures { λ r. ⌜ r ≡ ask (lent-questions (frame width height layout (now (mosaic .entry))) settings (rooms «red_room» «green_room» «blue_room» room)) ⌝ }
+    ensures { λ r. ⌜ r ≡ ask (lent-questions (frame width height layout (now (mosaic .entry))) settings (rooms «red_room» «green_room» «blue_room» room «wide_room»)) ⌝ }
 {
     let number = frame(width, height, layout, settings);
     if number != 0 {
@@ -180,11 +205,13 @@ pub fn lent_refusal(
     }
     buffers_refusal(
         settings.ceiling(),
+        two_levels(layout),
         width * height,
         mosaic,
         red_room,
         green_room,
         blue_room,
         room,
+        wide_room,
     )
 }

@@ -140,32 +140,28 @@ module _ {A : Type 0} where
       tall false true = unfold left-right in refl
       tall false false = refl
 
--- as the code has it, for a layout of 0 to 3
-small-layout : (l a b : ℕ) → l ≤ 3 → 2 * a + b ≡ with-parities l a b
-unfolding with-parities
-small-layout l a b h = omega arith
-
-layout-after : (e : Bool) (t w h l a b : ℕ) → leb 4 t ≡ e → l ≤ 3
+-- as the code has it
+layout-after : (e : Bool) (t w h l a b : ℕ) → leb 4 t ≡ e
     → a ≡ cond (tb-of t) (flip-if-even (cond e w h) (cond e (l % 2) (l / 2 % 2))) (cond e (l % 2) (l / 2 % 2))
     → b ≡ cond (lr-of t) (flip-if-even (cond e h w) (cond e (l / 2 % 2) (l % 2))) (cond e (l / 2 % 2) (l % 2))
-    → 2 * a + b ≡ shape-turned t w h l .layout
-unfolding shape-turned turned turned-by steps-of red-row red-column
-layout-after e t w h l a b f small p q =
-    small-layout l a b small ∙ (λ i. with-parities l (p i) (q i))
+    → 4 * (l / 4) + (2 * a + b) ≡ shape-turned t w h l .layout
+unfolding shape-turned turned turned-by steps-of red-row red-column with-parities
+layout-after e t w h l a b f p q =
+    (λ i. with-parities l (p i) (q i))
     ∙ sym (turned-layout e (lr-of t) (tb-of t) blank)
     ∙ ap (λ (x : Bool). if-so (tb-of t) top-bottom (if-so (lr-of t) left-right (if-so x exchanged blank)) .layout) (sym f)
   where
     blank : Picture Unit
     blank = record { width = w; height = h; layout = l; at = λ r c. tt }
 
-pub layout-high : (t w h l a b : ℕ) → 4 ≤ t → l ≤ 3
+pub layout-high : (t w h l a b : ℕ) → 4 ≤ t
     → a ≡ cond (tb-of t) (flip-if-even w (l % 2)) (l % 2) → b ≡ cond (lr-of t) (flip-if-even h (l / 2 % 2)) (l / 2 % 2)
-    → 2 * a + b ≡ shape-turned t w h l .layout
+    → 4 * (l / 4) + (2 * a + b) ≡ shape-turned t w h l .layout
 layout-high t w h l a b k = layout-after true t w h l a b (le-leb 4 t k)
 
-pub layout-low : (t w h l a b : ℕ) → t < 4 → l ≤ 3
+pub layout-low : (t w h l a b : ℕ) → t < 4
     → a ≡ cond (tb-of t) (flip-if-even h (l / 2 % 2)) (l / 2 % 2) → b ≡ cond (lr-of t) (flip-if-even w (l % 2)) (l % 2)
-    → 2 * a + b ≡ shape-turned t w h l .layout
+    → 4 * (l / 4) + (2 * a + b) ≡ shape-turned t w h l .layout
 layout-low t w h l a b k = layout-after false t w h l a b (lt-leb 4 t k)
 
 -- ---- a frame's shape turns as a shape with nothing at its places

@@ -1,6 +1,6 @@
 -- Operations that commute with every turn, and how they are put together. Assumes nothing.
 use mathlib.Core.Path.{_≡_, refl, sym, _∙_, ap, fun-ext, subst}
-use mathlib.Core.Bool.{Bool, true, false}
+use mathlib.Core.Bool.{Bool, true, false, cond}
 use mathlib.Core.List.{[], _∷_}
 use Prim.Native.Nat.{ℕ, _+_, _-_, _%_, _<_}
 use native.Mathlib.Omega.{arith}
@@ -12,9 +12,9 @@ use Rattle.integers.proofs.Bounds.{minus-pos}
 use Rattle.integers.proofs.Linear.{linear, x₀, x₁, x₂, neg, _⊕_, _⊖_}
 use Rattle.border.specs.Border.{reflect}
 use Rattle.border.proofs.Reflection.{reflect-lt, reflect-mirror}
-use Rattle.planes.specs.Layout.{red-row, red-column, on-red-row, on-red-column, with-parities}
+use Rattle.planes.specs.Layout.{red-row, red-column, on-red-row, on-red-column, two-levels, with-parities}
 use Rattle.planes.specs.Planes.{Agree}
-use Rattle.planes.proofs.Layouts.{row-lt, column-lt, row-with, column-with}
+use Rattle.planes.proofs.Layouts.{row-lt, column-lt, row-with, column-with, level-with}
 use Rattle.turns.specs.Pictures.{Picture, exchanged, left-right, top-bottom, flip-if-even, steps-of, if-so, turned-by, turned, _≈_}
 use Rattle.turns.specs.Operations.{Operation, Around, nearby}
 use Rattle.turns.proofs.Pictures.{flip-is, flip-lt, ≈-refl, ≈-sym, ≈-trans, exchanged-≈, left-right-≈, top-bottom-≈, top-bottom-is}
@@ -108,6 +108,24 @@ by-parities τ υ g e = record {
   exchange = λ w h l p r c hr hc. (λ i. g (row-exchange l r i) (column-exchange l c i) (τ (p c r))) ∙ e (on-red-row l c) (on-red-column l r) (p c r);
   mirror = λ w h l p r c hr hc. λ i. g (row-mirror w l r i) (column-mirror w l c hc i) (p r (w - 1 - c));
 }
+
+-- by the layout's level, which is kept
+pub by-level : {A B : Type 0} {τ : A → A} {υ : B → B} {F G : Operation A B} → Commutes τ υ F → Commutes τ υ G
+    → Commutes τ υ (λ w h l p r c. cond (two-levels l) (F w h l p r c) (G w h l p r c))
+by-level {A} {B} {τ} {υ} {F} {G} f g = record {
+  agrees = λ w h l p q e r c hr hc. either (two-levels l) same (f .agrees w h l p q e r c hr hc) (g .agrees w h l p q e r c hr hc);
+  exchange = λ w h l p r c hr hc.
+      ap (λ (b : Bool). cond b (F h w (exchange-layout l) (λ i j. τ (p j i)) r c) (G h w (exchange-layout l) (λ i j. τ (p j i)) r c)) (level-with l (red-column l) (red-row l) (column-lt l) (row-lt l))
+      ∙ either (two-levels l) υ (f .exchange w h l p r c hr hc) (g .exchange w h l p r c hr hc);
+  mirror = λ w h l p r c hr hc.
+      ap (λ (b : Bool). cond b (F w h (mirror-layout w l) (λ i j. p i (w - 1 - j)) r c) (G w h (mirror-layout w l) (λ i j. p i (w - 1 - j)) r c))
+      (level-with l (red-row l) (flip-if-even w (red-column l)) (row-lt l) (flip-lt w (red-column l) (column-lt l)))
+      ∙ either (two-levels l) same (f .mirror w h l p r c hr hc) (g .mirror w h l p r c hr hc);
+}
+  where
+    either : {x x' y y' : B} (b : Bool) (φ : B → B) → x ≡ φ x' → y ≡ φ y' → cond b x y ≡ φ (cond b x' y')
+    either true φ e e' = e
+    either false φ e e' = e'
 
 -- what is read from the reflected neighbourhood: g commutes with the exchange and the mirror of a neighbourhood
 module _ {A B : Type 0} (τ : A → A) (υ : B → B) (g : Bool → Bool → Around A → B)

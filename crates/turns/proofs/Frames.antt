@@ -10,9 +10,9 @@ use lib.ListN.{length, getD}
 use Rattle.integers.specs.Lists.{tabulate}
 use Rattle.integers.proofs.Lists.{length-tabulate, getD-tabulate}
 use Rattle.integers.proofs.Tests.{same-test, is-true, true-is}
-use Rattle.planes.specs.Layout.{red-row, red-column, with-parities}
+use Rattle.planes.specs.Layout.{red-row, red-column, two-levels, with-parities}
 use Rattle.planes.specs.Planes.{listing, plane-of, Frame, frame}
-use Rattle.planes.proofs.Layouts.{row-lt, column-lt}
+use Rattle.planes.proofs.Layouts.{row-lt, column-lt, same-level}
 use Rattle.planes.proofs.Planes.{length-listing, listing-agree, listing-plane-of, place-inside, plane-of-listing, row-inside, column-inside}
 use Rattle.questions.specs.Questions.{all-at-most}
 use Rattle.questions.proofs.Asking.{all-at-most-at, all-at-most-by}
@@ -110,26 +110,34 @@ every-turned {A} P t p b = turned-keeps (Every P) ex lr tb t p b
     tb : (p : Picture A) → Every P p → Every P (top-bottom p)
     tb p b = unfold top-bottom in (λ r c hr hc. b (p .height - 1 - r) c (omega arith) hc)
 
--- a layout of 0 to 3 stays one
-record LayoutTo3 {A : Type 0} (p : Picture A) : Type 0 where
-  holds : p .layout ≤ 3
+-- what a layout has above red's parities stays
+record LayoutAbove {A : Type 0} (n : ℕ) (p : Picture A) : Type 0 where
+  holds : p .layout / 4 ≡ n
 
-low-parities : (l r c : ℕ) → l ≤ 3 → r < 2 → c < 2 → with-parities l r c ≤ 3
+above-with : (l r c : ℕ) {n : ℕ} → l / 4 ≡ n → r < 2 → c < 2 → with-parities l r c / 4 ≡ n
 unfolding with-parities
-low-parities l r c h hr hc = omega arith
+above-with l r c e hr hc = omega (arith, e)
 
-pub layout-turned : (t : ℕ) (f : Frame) → f .layout ≤ 3 → turn-frame t f .layout ≤ 3
+above-turned : (t : ℕ) (f : Frame) → turn-frame t f .layout / 4 ≡ f .layout / 4
 unfolding turn-frame frame-of
-layout-turned t f b = turned-keeps LayoutTo3 ex lr tb t (picture-of f) (unfold picture-of in (record { holds = b })) .holds
+above-turned t f = turned-keeps (LayoutAbove (f .layout / 4)) ex lr tb t (picture-of f) (unfold picture-of in (record { holds = refl })) .holds
   where
-    ex : (p : Picture ℕ) → LayoutTo3 p → LayoutTo3 (exchanged p)
-    ex p b = unfold exchanged in (record { holds = low-parities (p .layout) _ _ (b .holds) (column-lt (p .layout)) (row-lt (p .layout)) })
+    ex : (p : Picture ℕ) → LayoutAbove (f .layout / 4) p → LayoutAbove (f .layout / 4) (exchanged p)
+    ex p b = unfold exchanged in (record { holds = above-with (p .layout) _ _ (b .holds) (column-lt (p .layout)) (row-lt (p .layout)) })
 
-    lr : (p : Picture ℕ) → LayoutTo3 p → LayoutTo3 (left-right p)
-    lr p b = unfold left-right in (record { holds = low-parities (p .layout) _ _ (b .holds) (row-lt (p .layout)) (flip-lt (p .width) (red-column (p .layout)) (column-lt (p .layout))) })
+    lr : (p : Picture ℕ) → LayoutAbove (f .layout / 4) p → LayoutAbove (f .layout / 4) (left-right p)
+    lr p b = unfold left-right in (record { holds = above-with (p .layout) _ _ (b .holds) (row-lt (p .layout)) (flip-lt (p .width) (red-column (p .layout)) (column-lt (p .layout))) })
 
-    tb : (p : Picture ℕ) → LayoutTo3 p → LayoutTo3 (top-bottom p)
-    tb p b = unfold top-bottom in (record { holds = low-parities (p .layout) _ _ (b .holds) (flip-lt (p .height) (red-row (p .layout)) (row-lt (p .layout))) (column-lt (p .layout)) })
+    tb : (p : Picture ℕ) → LayoutAbove (f .layout / 4) p → LayoutAbove (f .layout / 4) (top-bottom p)
+    tb p b = unfold top-bottom in (record { holds = above-with (p .layout) _ _ (b .holds) (flip-lt (p .height) (red-row (p .layout)) (row-lt (p .layout))) (column-lt (p .layout)) })
+
+-- so a layout of 0 to 7 stays one
+pub layout-turned : (t : ℕ) (f : Frame) → f .layout ≤ 7 → turn-frame t f .layout ≤ 7
+layout-turned t f b = omega (arith, above-turned t f, b)
+
+-- and "a turn keeps the 4"
+pub level-turned : (t : ℕ) (f : Frame) → two-levels (turn-frame t f .layout) ≡ two-levels (f .layout)
+level-turned t f = same-level (turn-frame t f .layout) (f .layout) (above-turned t f)
 
 -- a sample of the turned frame is a sample of the frame
 from-turned : (t : ℕ) (f : Frame) → Whole f → (v : ℕ) → Among (turn-frame t f .samples) v → Among (f .samples) v

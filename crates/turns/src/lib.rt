@@ -140,19 +140,22 @@ fn mirrored_parity(mirror: u8, n: usize, parity: u8) -> u8
     if n % 2 == 0 { 1 - parity } else { parity }
 }
 
-// A layout, turned. After an exchange red's rows have the parity of its columns, and the height is the old width.
+// A layout, turned; its level stays. After an exchange red's rows have the parity of its columns, and the height is the old width.
 fn layout_after(turn: u8, width: usize, height: usize, layout: u8) -> u8
-    requires { ⌜ layout ≤ 3 ⌝ }
+    requires { ⌜ layout ≤ 7 ⌝ }
     ensures { λ r. ⌜ r ≡ shape-turned turn width height layout .layout ⌝ }
 {
     let left_right = turn % 2;
     let top_bottom = turn / 2 % 2;
     let row = layout / 2 % 2;
     let column = layout % 2;
+    let level = 4 * (layout / 4);
     if 4 <= turn {
-        2 * mirrored_parity(top_bottom, width, column) + mirrored_parity(left_right, height, row)
+        let turned_row = 2 * mirrored_parity(top_bottom, width, column);
+        level + (turned_row + mirrored_parity(left_right, height, row))
     } else {
-        2 * mirrored_parity(top_bottom, height, row) + mirrored_parity(left_right, width, column)
+        let turned_row = 2 * mirrored_parity(top_bottom, height, row);
+        level + (turned_row + mirrored_parity(left_right, width, column))
     }
 }
 
