@@ -1,5 +1,6 @@
--- A lent work buffer: what it holds on the way, and afterwards. Assumes nothing.
+-- Lent work buffers: what they hold on the way, and afterwards. Assumes nothing.
 use mathlib.Core.Path.{_≡_}
+use mathlib.Core.Bool.{Bool, cond}
 use mathlib.Core.List.{List}
 use Prim.Native.Nat.{ℕ, _+_, _*_, _/_, _%_, _≤_, _<_}
 use lib.Dec.{T}
@@ -17,6 +18,10 @@ with-plane w h plane work = overwrite work 0 (w * h) (λ k. plane (k / w) (k % w
 -- Document 01, "Rounds": afterwards its first 8·w·h hold 0 and the rest is untouched.
 unfoldable pub zeroed : ℕ → ℕ → List ℤ → List ℤ
 zeroed w h work = overwrite work 0 (8 * (w * h)) (λ k. pos 0)
+
+-- Document 02: of a two-level call the wide one "too is left zero in that length"; a one-level call does not touch it.
+unfoldable pub wide-zeroed : Bool → ℕ → ℕ → List ℤ → List ℤ
+wide-zeroed two w h wide = cond two (zeroed w h wide) wide
 
 -- ---- what the code asks of lists
 -- the n numbers from o on are in the list, and each is a 16-bit sample

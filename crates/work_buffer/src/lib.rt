@@ -1,4 +1,5 @@
-// Inner: the work buffer that the update and the rounds are lent. Samples go in and out as signed numbers, and at last it is zeroed.
+// Inner: the work buffers that the update and the rounds are lent. Samples go in and out of the first as signed numbers, and at last both are
+// zeroed.
 ghost use mathlib.Core.Path.{_≡_};
 ghost use Prim.Native.Nat.{_≤_};
 ghost use lib.Dec.{T};
@@ -29,6 +30,18 @@ pub fn zero(work: &mut [i32], n: usize)
     let mut k = 0;
     while k < n {
         work[k] = 0;
+        k += 1;
+    }
+}
+
+// The same of the wide work buffer.
+pub fn zero_wide(wide: &mut [i64], n: usize)
+    requires { ⌜ n ≤ length (now wide) ⌝ }
+    ensures { λ _. ⌜ now (wide .exit) ≡ overwrite (now (wide .entry)) 0 n (λ k. pos 0) ⌝ }
+{
+    let mut k = 0;
+    while k < n {
+        wide[k] = 0;
         k += 1;
     }
 }

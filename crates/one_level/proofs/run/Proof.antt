@@ -1,0 +1,124 @@
+-- `one_level::run` meets its contract: after n turns, the work buffer holds the working plane after n rounds.
+-- Assumes nothing.
+use mathlib.Core.Path.{_≡_, refl, sym, _∙_, ap, subst}
+use mathlib.Core.Bool.{false}
+use mathlib.Core.List.{List}
+use Prim.Native.Nat.{ℕ, _*_, _-_, _≤_}
+use native.Mathlib.Omega.{arith}
+use lib.IntN.{ℤ, pos}
+use lib.ListN.{length}
+use denote.Ref.{now}
+use mir.Syntax.{w32}
+use mir.Facts.{toZ-pos}
+use borrow.Author.Needs.{needs}
+use Rattle.planes.specs.Planes.{plane-of}
+use Rattle.work_buffer.specs.Buffer.{with-plane, Narrow, Workable}
+use Rattle.working_plane.specs.Rounds.{working-plane}
+use Rattle.working_plane.specs.Colours.{round-of}
+use Rattle.working_plane.proofs.Working.{colour-projectable, none-laid, more-laid, after-narrow}
+use Rattle.one_level.proofs.Projected.{one-laid}
+use Rattle.one_level.proofs.run.Statement.{statement}
+use Rattle.one_level.proofs.run.Tie as tie
+
+abbrev Inv-loop : tie.InvT-loop
+Inv-loop colour top rounds mosaic green work₀ given most n₀ work n =
+    (n ≤ rounds)
+    × (work ≡ with-plane (colour .width) (colour .height) (working-plane n (round-of false colour top mosaic green) (plane-of (pos 0) (colour .width) work₀)) work₀)
+    × (length work ≡ length work₀)
+
+abbrev μ-loop : tie.MeasureT-loop
+μ-loop colour top rounds mosaic green work₀ given most n₀ work n = rounds - n
+
+-- where the function starts, and where the loop does
+abbrev start : tie.At-loop Inv-loop μ-loop → tie.Start Inv-loop μ-loop
+start l = l .before .before .before .before
+
+-- the working plane after n rounds
+abbrev After : tie.Start Inv-loop μ-loop → ℕ → ℕ → ℕ → ℤ
+After s n = let a = s .args in working-plane n (round-of false (a .colour) (a .top) (now (a .mosaic)) (now (a .green))) (plane-of (pos 0) (a .colour .width) (now (a .work)))
+
+-- it has room
+room : (s : tie.Start Inv-loop μ-loop) → s .args .colour .width * s .args .colour .height ≤ length (now (s .args .work))
+room s = omega (arith, s .pre .0 .work)
+
+given-of-requires : tie.Need-given-of-requires Inv-loop μ-loop
+given-of-requires c κs = search needs
+
+cast-most : tie.Need-cast-most Inv-loop μ-loop
+cast-most c = search needs
+
+loop-holds : tie.Need-loop-holds Inv-loop μ-loop
+loop-holds c =
+    let s = c .before .before .before in
+    let a = s .args in
+    (omega arith, none-laid false (a .colour) (a .top) (now (a .mosaic)) (now (a .green)) (now (a .work)) (room s), refl)
+
+-- what a round needs is there
+workable : (l : tie.At-loop Inv-loop μ-loop) → let a = start l .args in Workable (a .colour .width) (a .colour .height) (now (a .mosaic)) (now (a .green)) (length (l .loop .work))
+workable l = let a = start l .args in subst (Workable (a .colour .width) (a .colour .height) (now (a .mosaic)) (now (a .green))) (sym (l .loop .inv .2)) (start l .pre .0)
+
+narrow : (l : tie.At-loop Inv-loop μ-loop) → let a = start l .args in Narrow (l .loop .work) 0 (a .colour .width * a .colour .height)
+narrow l =
+    let s = start l in
+    let a = s .args in
+    after-narrow false (a .colour) (a .top) (now (a .mosaic)) (now (a .green)) (now (a .work)) (room s) (l .loop .n) (l .loop .inv .1) (s .pre .3) (omega arith) (λ k. omega (arith, l .before .before .before .shared-slice-known .given k))
+
+project-requires : tie.Need-project-requires Inv-loop μ-loop
+project-requires c κs =
+    let l = c .before .before in
+    let a = start l .args in
+    colour-projectable (a .colour) (now (a .mosaic)) (now (a .green)) (l .loop .work) (l .before .given-of .ensures) (omega (arith, start l .good .0)) (workable l) (narrow l) (λ k. omega (arith, l .before .before .shared-slice-known2 .given k))
+
+put-observed-requires : tie.Need-put-observed-requires Inv-loop μ-loop
+put-observed-requires c κs =
+    let p = c .before .before in
+    let l = p .before .before .before in
+    let s = start l in
+    let u = workable l in
+    ((u .sizes, s .pre .1, s .pre .2), (u .samples, omega (arith, u .work, p .project .kept)))
+
+add-n : tie.Need-add-n Inv-loop μ-loop
+add-n c = omega arith
+
+loop-less : tie.Need-loop-less Inv-loop μ-loop
+loop-less c = omega arith
+
+loop-again : tie.Need-loop-again Inv-loop μ-loop
+loop-again c =
+    let p = c .before .before .before .before in
+    let l = p .before .before .before in
+    let s = start l in
+    let a = s .args in (
+      omega arith,
+      more-laid false (a .colour) (a .top) (now (a .mosaic)) (now (a .green)) (now (a .work)) (room s) (l .loop .n) (l .loop .inv .1)
+          (one-laid (a .colour) (a .top) (now (a .mosaic)) (now (a .green)) (l .loop .work) (l .before .given-of .ensures) (omega (arith, workable l .work)) (toZ-pos w32 (omega arith)) (p .project .ensures) (c .before .put-observed .ensures)),
+      omega arith,
+    )
+
+same-length : tie.Need-same-length Inv-loop μ-loop
+same-length c = c .before .loop .inv .2
+
+returns : tie.Need-returns Inv-loop μ-loop
+returns c =
+    let l = c .before in
+    let s = start l in
+    let a = s .args in
+    let all : l .loop .n ≡ a .rounds = omega arith in
+    l .loop .inv .1 ∙ ap (λ (n : ℕ). with-plane (a .colour .width) (a .colour .height) (After s n) (now (a .work))) all
+
+pub run-spec : {M : Type 1} → statement M
+run-spec =
+    tie.close
+    (tie.spec
+    Inv-loop
+    μ-loop
+    given-of-requires
+    cast-most
+    loop-holds
+    project-requires
+    put-observed-requires
+    add-n
+    loop-less
+    loop-again
+    same-length
+    returns)
