@@ -6,7 +6,7 @@ use mathlib.Core.List.{List}
 use Prim.Native.Nat.{ℕ, _+_, _*_, _-_, _≤_, _<_}
 use native.Mathlib.Omega.{arith}
 use lib.IntN.{ℤ, pos, natAbs, _*ℤ_}
-use lib.ListN.{length}
+use lib.ListN.{getD, length}
 use denote.Ref.{now}
 use mir.Syntax.{w32}
 use mir.Val.{toZ, ofZ}
@@ -56,9 +56,25 @@ start l = l .before .before .before .before .before
 abbrev After : tie.Start Inv-loop μ-loop → ℕ → ℕ → ℕ → ℤ
 After s n = let a = s .args in working-plane n (round-of true (a .colour) (a .top) (now (a .mosaic)) (now (a .green))) (plane-of (pos 0) (a .colour .width) (now (a .work)))
 
--- it has room
+-- a work buffer has room for eight planes, and so for one
+eighth : {n room : ℕ} → 8 * n ≤ room → n ≤ room
+eighth h = omega (arith, h)
+
+-- samples, the ceiling and the threshold have 16 bits
+green-small : (c : tie.After-shared-slice-known2 Inv-loop μ-loop) (k : ℕ) → getD (now (c .before .before .args .green)) k 0 ≤ 65535
+green-small c k = omega (arith, c .shared-slice-known2 .given k)
+
+mosaic-small : (c : tie.After-shared-slice-known Inv-loop μ-loop) (k : ℕ) → getD (now (c .before .args .mosaic)) k 0 ≤ 65535
+mosaic-small c k = omega (arith, c .shared-slice-known .given k)
+
+top-small : (s : tie.Start Inv-loop μ-loop) → s .args .top ≤ 65535
+top-small s = omega (arith, s .good .1 .0)
+
+threshold-small : (s : tie.Start Inv-loop μ-loop) → s .args .colour .threshold ≤ 65535
+threshold-small s = omega (arith, s .good .0)
+
 room : (s : tie.Start Inv-loop μ-loop) → s .args .colour .width * s .args .colour .height ≤ length (now (s .args .work))
-room s = omega (arith, s .pre .0 .0 .work)
+room s = eighth (s .pre .0 .0 .work)
 
 given-of-requires : tie.Need-given-of-requires Inv-loop μ-loop
 given-of-requires c κs = search needs
@@ -85,6 +101,9 @@ loop-holds c =
     let a = s .args in
     (omega arith, none-laid true (a .colour) (a .top) (now (a .mosaic)) (now (a .green)) (now (a .work)) (room s), refl, refl, refl, refl, refl, refl, refl, refl, refl, refl, refl, refl, refl, refl, refl)
 
+kept : {n a b : ℕ} → a ≡ b → n ≤ b → n ≤ a
+kept {n} e = subst (λ (x : ℕ). n ≤ x) (sym e)
+
 -- what a round needs is there
 workable : (l : tie.At-loop Inv-loop μ-loop) → let a = start l .args in Workable (a .colour .width) (a .colour .height) (now (a .mosaic)) (now (a .green)) (length (l .loop .work))
 workable l = let a = start l .args in subst (Workable (a .colour .width) (a .colour .height) (now (a .mosaic)) (now (a .green))) (sym (l .loop .inv .2)) (start l .pre .0 .0)
@@ -93,11 +112,18 @@ narrow : (l : tie.At-loop Inv-loop μ-loop) → let a = start l .args in Narrow 
 narrow l =
     let s = start l in
     let a = s .args in
-    after-narrow true (a .colour) (a .top) (now (a .mosaic)) (now (a .green)) (now (a .work)) (room s) (l .loop .n) (l .loop .inv .1) (s .pre .0 .3) (omega arith) (λ k. omega (arith, l .before .before .before .before .shared-slice-known .given k))
+    after-narrow true (a .colour) (a .top) (now (a .mosaic)) (now (a .green)) (now (a .work)) (room s) (l .loop .n) (l .loop .inv .1) (s .pre .0 .3) (top-small s) (mosaic-small (l .before .before .before .before))
 
 -- where the loop starts, from the call of the sweep
 abbrev turn : tie.After-project-rows-arg15 Inv-loop μ-loop → tie.At-loop Inv-loop μ-loop
 turn c = c .before .before .before .before .before .before .before .before .before .before .before .before .before .before .before .before
+
+-- what the machine reads
+top-reads : {top : ℕ} → top ≤ 65535 → toZ w32 top ≡ pos top
+top-reads h = toZ-pos w32 (omega (arith, h))
+
+limit-small : {threshold : ℕ} → threshold ≤ 65535 → 256 * threshold ≤ 1073741824
+limit-small h = omega (arith, h)
 
 -- the second limit
 second-limit : (c : tie.After-widened Inv-loop μ-loop) → toZ w32 (ofZ w32 (pos 256 *ℤ toZ w32 (ofZ w32 (c .widened .result)))) ≡ limits-of (c .before .before .before .before .args .colour .threshold) .second
@@ -120,8 +146,8 @@ project-rows-requires c κs =
     let i = l .loop .inv in
     let r = s .pre .1 in (
       (
-        colour-projectable (a .colour) (now (a .mosaic)) (now (a .green)) (l .loop .work) (l .before .before .given-of .ensures) (omega (arith, s .good .0)) (workable l) (narrow l) (λ k. omega (arith, l .before .before .before .shared-slice-known2 .given k)),
-        subst Distance (sym (second-limit (l .before))) (unfold limits-of in (record { sign = tt; small = omega (arith, s .good .0) })),
+        colour-projectable (a .colour) (now (a .mosaic)) (now (a .green)) (l .loop .work) (l .before .before .given-of .ensures) (threshold-small s) (workable l) (narrow l) (green-small (l .before .before .before)),
+        subst Distance (sym (second-limit (l .before))) (unfold limits-of in (record { sign = tt; small = limit-small (threshold-small s) })),
       ),
       (
         (ring-room 3 w (i .3) (r .0 .0), ring-room 5 w (i .4) (r .0 .1), ring-room 7 w (i .5) (r .0 .2), ring-room 7 w (i .6) (r .0 .3), ring-room 9 w (i .7) (r .0 .4), ring-room 9 w (i .8) (r .0 .5)),
@@ -138,7 +164,7 @@ swept c = c .before .before .before .before .before .before .before .before .bef
 
 -- one round more is asked for
 below : (c : tie.After-project-rows-arg15 Inv-loop μ-loop) → turn c .loop .n < start (turn c) .args .rounds
-below c = omega arith
+below c = c .before .before .before .before .before .before .before .before .before .before .before .before .before .before .before .loop-test .taken
 
 put-observed-requires : tie.Need-put-observed-requires Inv-loop μ-loop
 put-observed-requires c κs =
@@ -146,7 +172,7 @@ put-observed-requires c κs =
     let l = turn (p .before) in
     let s = start l in
     let u = workable l in
-    ((u .sizes, s .pre .0 .1, s .pre .0 .2), (u .samples, omega (arith, u .work, p .project-rows .kept .0)))
+    ((u .sizes, s .pre .0 .1, s .pre .0 .2), (u .samples, kept (p .project-rows .kept .0) (eighth (u .work))))
 
 add-n : tie.Need-add-n Inv-loop μ-loop
 add-n c = let b = swept (c .before .before) .before in record { fits = omega (arith, below b, start (turn b) .good .1 .1 .0) }
@@ -164,7 +190,7 @@ loop-again c =
     let i = l .loop .inv in (
       omega (arith, below (p .before)),
       more-laid true (a .colour) (a .top) (now (a .mosaic)) (now (a .green)) (now (a .work)) (room s) (l .loop .n) (l .loop .inv .1)
-          (two-laid (a .colour) (a .top) (now (a .mosaic)) (now (a .green)) (l .loop .work) (l .before .before .given-of .ensures) (omega (arith, workable l .work)) (second-limit (l .before)) (toZ-pos w32 (omega (arith, s .good .1 .0))) (p .project-rows .ensures .0) (c .before .put-observed .ensures)),
+          (two-laid (a .colour) (a .top) (now (a .mosaic)) (now (a .green)) (l .loop .work) (l .before .before .given-of .ensures) (eighth (workable l .work)) (second-limit (l .before)) (top-reads (top-small s)) (p .project-rows .ensures .0) (c .before .put-observed .ensures)),
       c .before .put-observed .kept .1 .1 .0 ∙ p .project-rows .kept .0 ∙ i .2,
       e .0 .0 ∙ i .3,
       e .0 .1 ∙ i .4,
