@@ -1,4 +1,2 @@
-pub mod Repeated
 pub mod Turned
-pub mod Working
 pub mod Calls

@@ -4,7 +4,7 @@ use mathlib.Core.Bool.{Bool, true, false, cond, not, _&&_}
 use Prim.Native.Nat.{ℕ, zero, suc, _-_, _%_}
 use lib.Dec.{eqb}
 use lib.IntN.{ℤ, pos, natAbs}
-use Rattle.planes.specs.Layout.{red-row, red-column, on-red-row, on-red-column}
+use Rattle.planes.specs.Layout.{red-row, red-column, on-red-row, on-red-column, two-levels}
 use Rattle.planes.specs.Planes.{Planes, planes}
 use Rattle.planes.proofs.Layouts.{row-lt, column-lt}
 use Rattle.planes.proofs.Places.{other-parity}
@@ -12,10 +12,13 @@ use Rattle.questions.specs.Settings.{ceiling-of, rounds-of}
 use Rattle.questions.specs.declared.Settings.{Settings}
 use Rattle.turns.specs.Operations.{Operation}
 use Rattle.turns.specs.Pictures.{Picture, turned, _≈_}
-use Rattle.turns.proofs.Commuting.{Commutes, same, composed, paired, pointwise, by-parities, commutes-by, apply, apply-turned}
+use Rattle.turns.proofs.Commuting.{Commutes, same, composed, paired, pointwise, by-parities, by-level, commutes-by, apply, apply-turned}
+use Rattle.projection.specs.Projection.{Limits, limits-of}
 use Rattle.projection.proofs.Projection.{projected-commutes}
-use Rattle.rounds.specs.Rounds.{Round, limit-of, put-observed, round, working-plane, rewritten, rounds}
-use Rattle.rounds.proofs.Repeated.{round-projected}
+use Rattle.projection.proofs.Levels.{two-level-projected-commutes}
+use Rattle.working_plane.specs.Rounds.{Round, put-observed, round, working-plane, rewritten}
+use Rattle.working_plane.proofs.Repeated.{round-projected}
+use Rattle.rounds.specs.Rounds.{rounds}
 
 -- ---- a colour
 -- By its parities in each layout, and by which places are its: whether their row, and their column, have red's parity.
@@ -52,10 +55,10 @@ blues = record {
 }
 
 -- ---- its rounds; a place has its mosaic sample, its green, and its value in the working plane
-module _ (top : ℕ) (limit : ℤ) (k : Coloured) where
+module _ (top : ℕ) (limits : Limits) (k : Coloured) where
   -- the colour's round in a frame of width w, height h and layout l
   abbrev pub round-in : ℕ → ℕ → ℕ → (ℕ → ℕ → ℕ) → (ℕ → ℕ → ℕ) → Round
-  round-in w h l mosaic green = record { top = top; limit = limit; width = w; height = h; row = k .row l; column = k .column l; mosaic = mosaic; green = green }
+  round-in w h l mosaic green = record { two = two-levels l; top = top; limits = limits; width = w; height = h; row = k .row l; column = k .column l; mosaic = mosaic; green = green }
 
   -- one
   abbrev pub round-operation : Operation (ℕ × ℕ × ℤ) ℤ
@@ -73,11 +76,11 @@ module _ (top : ℕ) (limit : ℤ) (k : Coloured) where
       (composed (pointwise {A = ℕ × ℕ × ℤ} {B = ℤ × ℤ} same same (λ x. (pos (x .1), x .2)) (λ x. refl)) f))
       (by-parities {A = ℕ × ℤ} same same (λ a b x. cond (k .own a b) (pos (x .0)) (x .1)) (λ a b x. λ m. cond (k .exchange a b m) (pos (x .0)) (x .1))))
 
-  -- so a round does, whose operation is the projection
+  -- so a round does, whose operation is the projection at the layout's level
   pub round-commutes : Commutes same same round-operation
   round-commutes =
       commutes-by (λ w h l p r c. sym (round-projected (round-in w h l (λ i j. p i j .0) (λ i j. p i j .1)) (λ i j. p i j .2) r c))
-      (observed-commutes (projected-commutes limit (pos 0) (pos top)))
+      (observed-commutes (by-level (two-level-projected-commutes limits (pos 0) (pos top)) (projected-commutes (limits .first) (pos 0) (pos top))))
 
   -- n
   abbrev pub n-rounds : ℕ → Operation (ℕ × ℕ × ℤ) ℤ
@@ -107,8 +110,8 @@ pub rounds-commute : (s : Settings) → Commutes same same (rounds s)
 unfolding rounds reds blues
 rounds-commute s =
     composed {B = (ℕ × ℕ) × ℕ}
-    (paired (paired {B = ℕ} {C = ℕ} (rewritten-commutes (ceiling-of s) (limit-of (s .threshold)) reds (rounds-of s) (λ x. x .red)) (pointwise {A = ℕ × Planes ℕ} same same (λ x. x .1 .green) (λ x. refl)))
-    (rewritten-commutes (ceiling-of s) (limit-of (s .threshold)) blues (rounds-of s) (λ x. x .blue)))
+    (paired (paired {B = ℕ} {C = ℕ} (rewritten-commutes (ceiling-of s) (limits-of (s .threshold)) reds (rounds-of s) (λ x. x .red)) (pointwise {A = ℕ × Planes ℕ} same same (λ x. x .1 .green) (λ x. refl)))
+    (rewritten-commutes (ceiling-of s) (limits-of (s .threshold)) blues (rounds-of s) (λ x. x .blue)))
     (pointwise same same (λ x. planes (x .0 .0) (x .0 .1) (x .1)) (λ x. refl))
 
 -- the rounds of a turned picture are the rounds' planes turned
