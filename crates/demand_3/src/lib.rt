@@ -85,8 +85,9 @@ fn finish_standing(
     green: &mut [u16],
     blue: &mut [u16],
     work: &mut [i32],
+    wide_work: &mut [i64],
 ) -> Answer
-    ensures { λ r. ⌜ Result (finish-call (stands at (now (first .entry)) (now (second .entry)) .frame) settings (lent (now (red .entry)) (now (green .entry)) (now (blue .entry)) (now (work .entry)))) r (lent (now (red .exit)) (now (green .exit)) (now (blue .exit)) (now (work .exit))) ⌝ }
+    ensures { λ r. ⌜ Result (finish-call (stands at (now (first .entry)) (now (second .entry)) .frame) settings (lent (now (red .entry)) (now (green .entry)) (now (blue .entry)) (now (work .entry)) (now («wide_work» .entry)))) r (lent (now (red .exit)) (now (green .exit)) (now (blue .exit)) (now (work .exit)) (now («wide_work» .exit))) ⌝ }
 {
     let width = at.width;
     let height = at.height;
@@ -102,6 +103,7 @@ fn finish_standing(
             green,
             blue,
             work,
+            wide_work,
         );
     }
     finishing::finish_frame(
@@ -114,6 +116,7 @@ fn finish_standing(
         green,
         blue,
         work,
+        wide_work,
     )
 }
 
@@ -130,12 +133,14 @@ pub fn finish_turned(
     green1: &mut [u16],
     blue1: &mut [u16],
     work1: &mut [i32],
+    wide1: &mut [i64],
     red2: &mut [u16],
     green2: &mut [u16],
     blue2: &mut [u16],
     work2: &mut [i32],
+    wide2: &mut [i64],
 ) -> Numbers
-    ensures { λ r. ⌜ FinishedAlike (now (turns .entry)) (frame width height layout (now (first .entry))) (now (second .entry)) settings (lent (now (red1 .entry)) (now (green1 .entry)) (now (blue1 .entry)) (now (work1 .entry))) (lent (now (red2 .entry)) (now (green2 .entry)) (now (blue2 .entry)) (now (work2 .entry))) r (now (first .exit)) (now (second .exit)) (lent (now (red1 .exit)) (now (green1 .exit)) (now (blue1 .exit)) (now (work1 .exit))) (lent (now (red2 .exit)) (now (green2 .exit)) (now (blue2 .exit)) (now (work2 .exit))) ⌝ }
+    ensures { λ r. ⌜ FinishedAlike (now (turns .entry)) (frame width height layout (now (first .entry))) (now (second .entry)) settings (lent (now (red1 .entry)) (now (green1 .entry)) (now (blue1 .entry)) (now (work1 .entry)) (now (wide1 .entry))) (lent (now (red2 .entry)) (now (green2 .entry)) (now (blue2 .entry)) (now (work2 .entry)) (now (wide2 .entry))) r (now (first .exit)) (now (second .exit)) (lent (now (red1 .exit)) (now (green1 .exit)) (now (blue1 .exit)) (now (work1 .exit)) (now (wide1 .exit))) (lent (now (red2 .exit)) (now (green2 .exit)) (now (blue2 .exit)) (now (work2 .exit)) (now (wide2 .exit))) ⌝ }
 {
     let start = Standing {
         width,
@@ -143,9 +148,29 @@ pub fn finish_turned(
         layout,
         swapped: false,
     };
-    let given = finish_standing(start, settings, first, second, red1, green1, blue1, work1);
+    let given = finish_standing(
+        start,
+        settings,
+        first,
+        second,
+        red1,
+        green1,
+        blue1,
+        work1,
+        wide1,
+    );
     let at = turn_all(turns, start, first, second);
-    let turned = finish_standing(at, settings, first, second, red2, green2, blue2, work2);
+    let turned = finish_standing(
+        at,
+        settings,
+        first,
+        second,
+        red2,
+        green2,
+        blue2,
+        work2,
+        wide2,
+    );
     Numbers {
         given: given.number(),
         turned: turned.number(),

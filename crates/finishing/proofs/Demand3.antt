@@ -11,7 +11,7 @@ use borrow.Author.Tests.{eq-eqb, le-leb}
 use Rattle.planes.specs.Planes.{Frame, frame, Planes}
 use Rattle.questions.specs.Settings.{ceiling-of}
 use Rattle.questions.specs.Questions.{question, ask, between}
-use Rattle.questions.specs.Lent.{Lent, Rooms, rooms-of}
+use Rattle.questions.specs.Lent.{Lent, Rooms, rooms-of, wide-enough}
 use Rattle.questions.specs.Calls.{Call, Result, Numbered, number-of-answer}
 use Rattle.questions.specs.declared.Settings.{Settings}
 use Rattle.questions.specs.declared.Answer.{Answer}
@@ -22,7 +22,7 @@ use Rattle.turns.specs.Frames.{turn-frame}
 use Rattle.turns.specs.Turning.{turn-questions, turn-call}
 use Rattle.turns.specs.declared.TurnedFrame.{TurnedFrame}
 use Rattle.turns.specs.declared.TurnedFrame.the-variants.{Accepted, Refused}
-use Rattle.turns.proofs.Frames.{turned-whole, all-at-most-turned, layout-turned}
+use Rattle.turns.proofs.Frames.{turned-whole, all-at-most-turned, layout-turned, level-turned}
 use Rattle.turns.proofs.Calls.{frame-width, frame-height, Fillable, fillable}
 use Rattle.finishing.specs.Finishing.{finish-lists}
 use Rattle.finishing.specs.Calls.{finish-questions, finish-call, finish-given, number-of-finish, FinishResult}
@@ -59,7 +59,7 @@ module _ (t : ℕ) (f : Frame) {other : ℕ} (k : Fillable (f .width) (f .height
   questions-turned s room = λ i.
       question 1 (both (in-range (leb 4 t) (frame-width t f)) (in-range false refl) i)
       ∷ question 2 (both (tall (leb 4 t) (frame-height t f)) (in-range true refl) i)
-      ∷ question 3 (both (le-leb _ 3 (layout-turned t f (k .shape .layout-to))) (le-leb (f .layout) 3 (k .shape .layout-to)) i)
+      ∷ question 3 (both (le-leb _ 7 (layout-turned t f (k .shape .layout-to))) (le-leb (f .layout) 7 (k .shape .layout-to)) i)
       ∷ question 4 (leb (s .rounds) 64)
       ∷ question 5 (leb (s .threshold) (ceiling-of s))
       ∷ question 6 (both (eq-eqb _ _ (turned-whole t f .count)) (eq-eqb (length (f .samples)) (f .width * f .height) (k .samples)) i)
@@ -67,6 +67,7 @@ module _ (t : ℕ) (f : Frame) {other : ℕ} (k : Fillable (f .width) (f .height
       ∷ question 7 (eqb (room .three .green) (area i))
       ∷ question 7 (eqb (room .three .blue) (area i))
       ∷ question 8 (leb (8 * area i) (room .work))
+      ∷ question 18 (wide-enough (level-turned t f i) (area i) (room .wide))
       ∷ question 9 (all-at-most-turned (ceiling-of s) t f (record { count = k .samples }) i)
       ∷ []
     where

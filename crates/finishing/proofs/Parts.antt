@@ -8,11 +8,12 @@ use native.Mathlib.Omega.{arith}
 use lib.IntN.{ℤ}
 use lib.ListN.{length}
 use borrow.Author.Tests.{eqb-true, leb-true, eq-eqb, le-leb}
+use Rattle.planes.specs.Layout.{two-levels}
 use Rattle.planes.specs.Planes.{Frame, Planes, planes, lengths, listing, plane-of, Agree}
 use Rattle.planes.proofs.Planes.{length-listing, listing-agree, plane-of-listing}
 use Rattle.questions.specs.Settings.{ceiling-of}
 use Rattle.questions.specs.Questions.{ask, all-at-most, shape-questions, settings-questions, frame-questions}
-use Rattle.questions.specs.Lent.{Lent, lent, rooms-of, buffer-questions}
+use Rattle.questions.specs.Lent.{Lent, lent, rooms-of, wide-enough, buffer-questions}
 use Rattle.questions.specs.Calls.{Result}
 use Rattle.questions.specs.declared.Settings.{Settings}
 use Rattle.questions.specs.declared.Answer.{Answer}
@@ -67,9 +68,9 @@ module _ (f : Frame) (s : Settings) (before : Lent) (e : 0 ≡ ask (finish-quest
   top = ceiling-of s
 
   -- all questions are answered yes
-  known : AllYes (frame-questions (f .width) (f .height) (f .layout) s) × AllYes (buffer-questions top count (f .samples) (rooms-of before))
+  known : AllYes (frame-questions (f .width) (f .height) (f .layout) s) × AllYes (buffer-questions top (two-levels (f .layout)) count (f .samples) (rooms-of before))
   known =
-      all-yes-split (frame-questions (f .width) (f .height) (f .layout) s) (buffer-questions top count (f .samples) (rooms-of before))
+      all-yes-split (frame-questions (f .width) (f .height) (f .layout) s) (buffer-questions top (two-levels (f .layout)) count (f .samples) (rooms-of before))
       (all-yes (finish-questions f s (rooms-of before)) tt 0 e refl)
 
   shape : AllYes (shape-questions (f .width) (f .height) (f .layout))
@@ -83,6 +84,9 @@ module _ (f : Frame) (s : Settings) (before : Lent) (e : 0 ≡ ask (finish-quest
 
   pub work-room : 8 * count ≤ length (before .work)
   work-room = let y = known .1 in leb-true (8 * count) (length (before .work)) (search y)
+
+  wide-known : wide-enough (two-levels (f .layout)) count (length (before .wide)) ≡ true
+  wide-known = let y = known .1 in search y
 
   -- so they are of each part
   pub estimate-accepts : 0 ≡ ask (estimate-questions top f (lengths (before .three)))
@@ -104,7 +108,7 @@ module _ (f : Frame) (s : Settings) (before : Lent) (e : 0 ≡ ask (finish-quest
 
   -- the work buffer is zeroed by then
   abbrev given : Lent
-  given = record { three = updated-lists top f; work = zeroed (f .width) (f .height) (before .work) }
+  given = record { three = updated-lists top f; work = zeroed (f .width) (f .height) (before .work); wide = before .wide }
 
   zeroed-room : 8 * count ≤ length (given .work)
   zeroed-room = omega (arith, work-room, length-zeroed (f .width) (f .height) (before .work) work-room)
@@ -113,7 +117,7 @@ module _ (f : Frame) (s : Settings) (before : Lent) (e : 0 ≡ ask (finish-quest
   unfolding updated-lists
   rounds-accepts =
       sym (ask-zero (rounds-questions f s given)
-      (all-yes-both (frame-questions (f .width) (f .height) (f .layout) s) (buffer-questions top count (f .samples) (rooms-of given) ++ planes-questions top (given .three)) (known .0) (
+      (all-yes-both (frame-questions (f .width) (f .height) (f .layout) s) (buffer-questions top (two-levels (f .layout)) count (f .samples) (rooms-of given) ++ planes-questions top (given .three)) (known .0) (
         eq-eqb (length (f .samples)) count long,
         (
           eq-eqb (length (first .red)) count (ap (λ p. p .red) (estimates-long top f)),
@@ -124,8 +128,11 @@ module _ (f : Frame) (s : Settings) (before : Lent) (e : 0 ≡ ask (finish-quest
               (
                 le-leb (8 * count) (length (given .work)) zeroed-room,
                 (
-                  small,
-                  (lists-bound top f long small .0, (update-list-bound top f (first .green) green-long (lists-bound top f long small .1), (lists-bound top f long small .2, tt))),
+                  wide-known,
+                  (
+                    small,
+                    (lists-bound top f long small .0, (update-list-bound top f (first .green) green-long (lists-bound top f long small .1), (lists-bound top f long small .2, tt))),
+                  ),
                 ),
               ),
             ),
@@ -182,10 +189,10 @@ finished-by-parts f s =
 pub parts-leave : (f : Frame) (s : Settings) (before : Lent) → 0 ≡ ask (finish-questions f s (rooms-of before))
     → {a b c : Answer} {first : Planes (List ℕ)} {green : List ℕ} {work : List ℤ} {last : Lent}
     → Result (estimate-call (ceiling-of s) f (before .three)) a first → Result (update-call (ceiling-of s) f (first .green) (before .work)) b (green, work)
-    → Result (rounds-call f s (lent (first .red) green (first .blue) work)) c last → last ≡ with-finished f s before
+    → Result (rounds-call f s (lent (first .red) green (first .blue) work (before .wide))) c last → last ≡ with-finished f s before
 parts-leave f s before e {b = b} {c = c} {first} {green} {work} {last} p q r =
     new-left (rounds-call f s left) (subst (λ (x : Lent). Result (rounds-call f s x) c last) given r .leaves) (sym (rounds-accepts f s before e))
-    ∙ (λ i. record { three = finished-by-parts f s i; work = zeroed-again (f .width) (f .height) (before .work) (work-room f s before e) i })
+    ∙ (λ i. record { three = finished-by-parts f s i; work = zeroed-again (f .width) (f .height) (before .work) (work-room f s before e) i; wide = with-finished f s before .wide })
   where
     top : ℕ
     top = ceiling-of s
@@ -202,7 +209,7 @@ parts-leave f s before e {b = b} {c = c} {first} {green} {work} {last} p q r =
 
     -- and the rounds are given what it left
     left : Lent
-    left = record { three = updated-lists top f; work = zeroed (f .width) (f .height) (before .work) }
+    left = record { three = updated-lists top f; work = zeroed (f .width) (f .height) (before .work); wide = before .wide }
 
-    given : lent (first .red) green (first .blue) work ≡ left
-    given = unfold updated-lists in (λ i. lent (estimated i .red) (updated i .0) (estimated i .blue) (updated i .1))
+    given : lent (first .red) green (first .blue) work (before .wide) ≡ left
+    given = unfold updated-lists in (λ i. lent (estimated i .red) (updated i .0) (estimated i .blue) (updated i .1) (before .wide))

@@ -1,8 +1,9 @@
--- The finishing call: what it asks, and what its answer, its planes and its work buffer are then; and the same call with a tally. Assumes
+-- The finishing call: what it asks, and what its answer, its planes and its work buffers are then; and the same call with a tally. Assumes
 -- nothing.
 use mathlib.Core.Path.{_≡_}
 use mathlib.Core.List.{List}
 use Prim.Native.Nat.{ℕ}
+use Rattle.planes.specs.Layout.{two-levels}
 use Rattle.planes.specs.Planes.{Frame}
 use Rattle.questions.specs.Settings.{rounds-of}
 use Rattle.questions.specs.Questions.{Question, ask}
@@ -13,21 +14,25 @@ use Rattle.questions.specs.declared.Answer.{Answer}
 use Rattle.questions.specs.declared.Answer.the-variants as answer
 use Rattle.tally.specs.Tally.{next-tally}
 use Rattle.tally.specs.declared.Tally.{Tally}
-use Rattle.work_buffer.specs.Buffer.{zeroed}
+use Rattle.work_buffer.specs.Buffer.{zeroed, wide-zeroed}
 use Rattle.finishing.specs.Finishing.{finish-lists}
 use Rattle.finishing.specs.declared.FinishAnswer.{FinishAnswer}
 use Rattle.finishing.specs.declared.FinishAnswer.the-variants as finish-answer
 
--- ---- the questions, in document 01's order: 1 to 9, of a frame, its settings, and the room in planes and work buffer
+-- ---- the questions, in document 01's order: 1 to 9, with 18 after 8, of a frame, its settings, and the room in planes and work buffers
 abbrev pub finish-questions : Frame → Settings → Rooms → List Question
 finish-questions = lent-questions
 
 -- ---- without a tally
 -- what an accepted call makes of what it is lent
 abbrev pub with-finished : Frame → Settings → Lent → Lent
-with-finished f s before = record { three = finish-lists f s; work = zeroed (f .width) (f .height) (before .work) }
+with-finished f s before = record {
+  three = finish-lists f s;
+  work = zeroed (f .width) (f .height) (before .work);
+  wide = wide-zeroed (two-levels (f .layout)) (f .width) (f .height) (before .wide);
+}
 
--- the finishing call, given frame f, settings s, and planes and work buffer that held `before`
+-- the finishing call, given frame f, settings s, and planes and work buffers that held `before`
 abbrev pub finish-call : Frame → Settings → Lent → Call Answer Lent
 finish-call f s before = plain-call (finish-questions f s (rooms-of before)) (with-finished f s before) before
 
@@ -74,7 +79,7 @@ tallied g = record {
   old = untallied g .old;
 }
 
--- its answer r, which has the next tally in it, accepted or refused, and what planes and work buffer hold after
+-- its answer r, which has the next tally in it, accepted or refused, and what planes and work buffers hold after
 pub record FinishResult (g : FinishGiven) (r : FinishAnswer) (after : Lent) : Type 0 where
   pub result : Result (tallied g) r after
   pub next : tally-of-finish r ≡ next-of g

@@ -38,17 +38,29 @@ fn fill_planes(
     green: &mut [u16],
     blue: &mut [u16],
     work: &mut [i32],
+    wide_work: &mut [i64],
 )
-    requires { ⌜ 0 ≡ ask (finish-questions (frame width height layout (now mosaic)) given (rooms-of (lent (now red) (now green) (now blue) (now work)))) ⌝ }
-    ensures { λ _. ⌜ lent (now (red .exit)) (now (green .exit)) (now (blue .exit)) (now (work .exit)) ≡ with-finished (frame width height layout (now (mosaic .entry))) given (lent (now (red .entry)) (now (green .entry)) (now (blue .entry)) (now (work .entry))) ⌝ }
+    requires { ⌜ 0 ≡ ask (finish-questions (frame width height layout (now mosaic)) given (rooms-of (lent (now red) (now green) (now blue) (now work) (now «wide_work»)))) ⌝ }
+    ensures { λ _. ⌜ lent (now (red .exit)) (now (green .exit)) (now (blue .exit)) (now (work .exit)) (now («wide_work» .exit)) ≡ with-finished (frame width height layout (now (mosaic .entry))) given (lent (now (red .entry)) (now (green .entry)) (now (blue .entry)) (now (work .entry)) (now («wide_work» .entry))) ⌝ }
 {
     estimate::estimate(width, height, layout, mosaic, red, green, blue);
     update::update(width, height, layout, mosaic, green, work);
-    rounds::rounds(width, height, layout, given, mosaic, red, green, blue, work);
+    rounds::rounds(
+        width,
+        height,
+        layout,
+        given,
+        mosaic,
+        red,
+        green,
+        blue,
+        work,
+        wide_work,
+    );
 }
 
-// The finishing call without its tally: questions 1 to 9; estimate, update and rounds into three lent planes. The work buffer's first 8·w·h
-// are zero then.
+// The finishing call without its tally: questions 1 to 9, with 18 after 8; estimate, update and rounds into three lent planes. The work buffer's
+// first 8·w·h are zero then, and at two levels those of the wide work buffer, which one level does not touch.
 pub fn finish_frame(
     width: usize,
     height: usize,
@@ -59,8 +71,9 @@ pub fn finish_frame(
     green: &mut [u16],
     blue: &mut [u16],
     work: &mut [i32],
+    wide_work: &mut [i64],
 ) -> Answer
-    ensures { λ r. ⌜ Result (finish-call (frame width height layout (now (mosaic .entry))) settings (lent (now (red .entry)) (now (green .entry)) (now (blue .entry)) (now (work .entry)))) r (lent (now (red .exit)) (now (green .exit)) (now (blue .exit)) (now (work .exit))) ⌝ }
+    ensures { λ r. ⌜ Result (finish-call (frame width height layout (now (mosaic .entry))) settings (lent (now (red .entry)) (now (green .entry)) (now (blue .entry)) (now (work .entry)) (now («wide_work» .entry)))) r (lent (now (red .exit)) (now (green .exit)) (now (blue .exit)) (now (work .exit)) (now («wide_work» .exit))) ⌝ }
 {
     let refusal = questions::lent_refusal(
         width,
@@ -72,6 +85,7 @@ pub fn finish_frame(
         green.len(),
         blue.len(),
         work.len(),
+        wide_work.len(),
     );
     if refusal != 0 {
         return Answer::Refused(refusal);
@@ -86,6 +100,7 @@ pub fn finish_frame(
         green,
         blue,
         work,
+        wide_work,
     );
     Answer::Accepted
 }
@@ -111,9 +126,10 @@ pub fn finish(
     green: &mut [u16],
     blue: &mut [u16],
     work: &mut [i32],
+    wide_work: &mut [i64],
     tally: Tally,
 ) -> FinishAnswer
-    ensures { λ r. ⌜ FinishResult (finish-given (frame width height layout (now (mosaic .entry))) settings (lent (now (red .entry)) (now (green .entry)) (now (blue .entry)) (now (work .entry))) tally) r (lent (now (red .exit)) (now (green .exit)) (now (blue .exit)) (now (work .exit))) ⌝ }
+    ensures { λ r. ⌜ FinishResult (finish-given (frame width height layout (now (mosaic .entry))) settings (lent (now (red .entry)) (now (green .entry)) (now (blue .entry)) (now (work .entry)) (now («wide_work» .entry))) tally) r (lent (now (red .exit)) (now (green .exit)) (now (blue .exit)) (now (work .exit)) (now («wide_work» .exit))) ⌝ }
 {
     let answer = finish_frame(
         width,
@@ -125,6 +141,7 @@ pub fn finish(
         green,
         blue,
         work,
+        wide_work,
     );
     let rounds = settings.rounds_to_run() as u32;
     with_tally(answer, tally.next(answer.number(), rounds))

@@ -7,12 +7,13 @@ use native.Mathlib.Omega.{arith}
 use lib.ListN.{length}
 use lib.Seq.{length-sets}
 use borrow.Author.Tests.{eq-eqb, le-leb}
+use Rattle.planes.specs.Layout.{two-levels}
 use Rattle.questions.specs.Settings.{ceiling-of}
 use Rattle.questions.specs.Questions.{Question, ask}
 use Rattle.questions.specs.Lent.{Lent, rooms-of, buffer-questions}
 use Rattle.questions.specs.Calls.{Result}
 use Rattle.questions.specs.declared.Answer.{Answer}
-use Rattle.questions.proofs.Asking.{all-yes-both, ask-zero}
+use Rattle.questions.proofs.Asking.{all-yes-both, ask-zero, wide-suffices}
 use Rattle.questions.proofs.Answering.{left-no, left-yes, new-left}
 use Rattle.packet.specs.Packet.{fields-of, samples-of}
 use Rattle.packet.specs.Calls.{fields-questions, store-questions, filling-questions, mosaic-questions, mosaic-call}
@@ -76,8 +77,8 @@ planes-finished f samples k before room m =
     accepted : ask qs ≡ 0
     accepted =
         ask-zero qs
-        (all-yes-both (fields-questions f) (buffer-questions (ceiling-of (f .settings)) (f .width * f .height) samples (rooms-of before)) (k .fields .answers)
-        (eq-eqb _ _ (k .long), (eq-eqb _ _ (room .red-room), (eq-eqb _ _ (room .green-room), (eq-eqb _ _ (room .blue-room), (le-leb _ _ (room .work-room), (k .small, tt)))))))
+        (all-yes-both (fields-questions f) (buffer-questions (ceiling-of (f .settings)) (two-levels (f .layout)) (f .width * f .height) samples (rooms-of before)) (k .fields .answers)
+        (eq-eqb _ _ (k .long), (eq-eqb _ _ (room .red-room), (eq-eqb _ _ (room .green-room), (eq-eqb _ _ (room .blue-room), (le-leb _ _ (room .work-room), (wide-suffices _ _ _ (room .wide-room), (k .small, tt))))))))
 
 -- and they are printed
 pub text-printed : (s : List ℕ) → ask (program-questions s) ≡ 0 → (f : Fields) → f ≡ fields-of s

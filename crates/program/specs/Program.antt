@@ -52,4 +52,5 @@ pub record Buffers (count : ℕ) (mosaic : List ℕ) (before : Lent) (out : List
   pub green-room : length (before .three .green) ≡ count
   pub blue-room : length (before .three .blue) ≡ count
   pub work-room : 8 * count ≤ length (before .work)
+  pub wide-room : 8 * count ≤ length (before .wide)
   pub text-room : 12 + 18 * count ≤ length out

@@ -47,11 +47,12 @@ fn put_planes(
     green: &mut [u16],
     blue: &mut [u16],
     work: &mut [i32],
+    wide_work: &mut [i64],
     out: &mut [u8],
 ) -> usize
     requires { ⌜ ask (program-questions (now input)) ≡ 0 ⌝ }
     requires { ⌜ f ≡ fields-of (now input) ⌝ }
-    requires { ⌜ Buffers (f .width * f .height) (now mosaic) (lent (now red) (now green) (now blue) (now work)) (now out) ⌝ }
+    requires { ⌜ Buffers (f .width * f .height) (now mosaic) (lent (now red) (now green) (now blue) (now work) (now «wide_work»)) (now out) ⌝ }
     ensures { λ r. ⌜ Written (finished-text f (samples-of (now (input .entry)))) (now (out .entry)) r (now (out .exit)) ⌝ }
 {
     packet::read_mosaic(input, mosaic);
@@ -66,6 +67,7 @@ fn put_planes(
         green,
         blue,
         work,
+        wide_work,
     );
     printing::put_frame(out, f.width, f.height, red, green, blue)
 }
@@ -82,6 +84,7 @@ fn put_finished(input: &[u8], f: Fields, out: &mut [u8; 19456]) -> usize
     let mut green = [0u16; 1024];
     let mut blue = [0u16; 1024];
     let mut work = [0i32; 8192];
+    let mut wide_work = [0i64; 8192];
     put_planes(
         input,
         f,
@@ -90,6 +93,7 @@ fn put_finished(input: &[u8], f: Fields, out: &mut [u8; 19456]) -> usize
         &mut green[0..count],
         &mut blue[0..count],
         &mut work,
+        &mut wide_work,
         out,
     )
 }

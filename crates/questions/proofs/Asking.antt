@@ -1,5 +1,5 @@
 -- The laws of asking: what each return of a check shows (`search asking`), and what an accepted call knows. Assumes nothing.
-use Prim.Native.Nat.{ℕ, zero, suc, _+_, _≤_, _<_, max}
+use Prim.Native.Nat.{ℕ, zero, suc, _+_, _*_, _≤_, _<_, max}
 use mathlib.Core.Path.{_≡_, refl, ap, _∙_, sym}
 use mathlib.Core.Bool.{Bool, true, false, cond, _&&_, and-assoc}
 use mathlib.Core.List.{List, [], _∷_, _++_}
@@ -14,6 +14,7 @@ use Rattle.planes.specs.Planes.{Sizes}
 use Rattle.planes.proofs.Planes.{sized}
 use Rattle.questions.specs.Settings.{ceiling-of}
 use Rattle.questions.specs.Questions.{Question, question, ask, between, all-at-most, size-questions, shape-questions}
+use Rattle.questions.specs.Lent.{wide-enough}
 use Rattle.questions.specs.declared.Settings.{Settings}
 
 -- ---- at a return
@@ -129,6 +130,16 @@ shape-is w h l y = record { sizes = sizes-is 2 w h (y .0, (y .1 .0, tt)); layout
 -- where n is what a check of 1, 2 and then qs answered
 pub sizes-known : (least w h : ℕ) (qs : List Question) (n : ℕ) → n ≡ ask (size-questions least w h ++ qs) → T (numbered qs) → n ≡ 0 → Sizes least w h
 sizes-known least w h qs n e t z = sizes-is least w h (all-yes-split (size-questions least w h) qs (all-yes (size-questions least w h ++ qs) t n e z) .0)
+
+-- 18 answered yes, of two levels; and a wide buffer that is long enough at either
+pub wide-room : (two : Bool) (count room : ℕ) → wide-enough two count room ≡ true → two ≡ true → 8 * count ≤ room
+unfolding wide-enough
+wide-room two count room e t = leb-true (8 * count) room (sym (ap (λ (b : Bool). wide-enough b count room) t) ∙ e)
+
+pub wide-suffices : (two : Bool) (count room : ℕ) → 8 * count ≤ room → wide-enough two count room ≡ true
+unfolding wide-enough
+wide-suffices true count room h = le-leb (8 * count) room h
+wide-suffices false count room h = refl
 
 -- every ceiling fits two bytes
 pub ceiling-fits : (s : Settings) → ceiling-of s < 65536

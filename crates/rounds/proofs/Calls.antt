@@ -1,8 +1,8 @@
 -- The laws of the rounds call: what an accepted call knows, and what it leaves. Assumes nothing.
 use mathlib.Core.Path.{_≡_, sym, _∙_, ap}
-use mathlib.Core.Bool.{Bool, true}
+use mathlib.Core.Bool.{true}
 use mathlib.Core.List.{List, _++_}
-use Prim.Native.Nat.{ℕ, _*_, _≤_}
+use Prim.Native.Nat.{ℕ, _*_}
 use lib.IntN.{ℤ}
 use lib.ListN.{length}
 use borrow.Author.Tests.{eqb-true, leb-true}
@@ -53,11 +53,6 @@ module _ (f : Frame) (s : Settings) (before : Lent) (n : ℕ) (e : n ≡ ask (ro
 
   pub blue-long : length (before .three .blue) ≡ count
   blue-long = let y = known .1 in eqb-true (length (before .three .blue)) count (search y)
-
--- what 18 answered yes says of two levels
-pub wide-room : (two : Bool) (count room : ℕ) → wide-enough two count room ≡ true → two ≡ true → 8 * count ≤ room
-unfolding wide-enough
-wide-room two count room e t = leb-true (8 * count) room (sym (ap (λ (b : Bool). wide-enough b count room) t) ∙ e)
 
 -- ---- what it leaves
 module _ (f : Frame) (s : Settings) (before : Lent) where

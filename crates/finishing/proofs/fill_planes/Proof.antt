@@ -30,16 +30,19 @@ same-length-3 c = search needs
 same-length-4 : tie.Need-same-length-4
 same-length-4 c = search needs
 
+same-length-5 : tie.Need-same-length-5
+same-length-5 c = search needs
+
 -- the estimate's and the update's ceiling is the one of these settings
 returns : tie.Need-returns
 unfolding ceiling-of
 returns c =
-    let third = c .before .before .before .before .before in
-    let second = third .before .before .before .before .before .before .before .before in
+    let third = c .before .before .before .before .before .before in
+    let second = third .before .before .before .before .before .before .before .before .before in
     let first = second .before .before .before .before .before .before .before .before .before in
     let s = first .before .before .before .before .before .before .before .before in
     let a = s .args in
-    parts-leave (frame (a .width) (a .height) (a .layout) (now (a .mosaic))) (a .given) (lent (now (a .red)) (now (a .green)) (now (a .blue)) (now (a .work))) (s .pre)
+    parts-leave (frame (a .width) (a .height) (a .layout) (now (a .mosaic))) (a .given) (lent (now (a .red)) (now (a .green)) (now (a .blue)) (now (a .work)) (now (a .wide-work))) (s .pre)
     (first .estimate .ensures) (second .update .ensures) (third .rounds .ensures)
 
 pub fill-planes-spec : {M : Type 1} → statement M
@@ -53,4 +56,5 @@ fill-planes-spec =
     same-length-2
     same-length-3
     same-length-4
+    same-length-5
     returns)

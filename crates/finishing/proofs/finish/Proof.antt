@@ -42,15 +42,18 @@ same-length-3 c = search needs
 same-length-4 : tie.Need-same-length-4
 same-length-4 c = search needs
 
+same-length-5 : tie.Need-same-length-5
+same-length-5 c = search needs
+
 returns : tie.Need-returns
 returns c =
     let next = c .before in
     let number = next .before in
     let rounds = number .before in
-    let done = rounds .before .before .before .before .before .before .before .before in
-    let s = done .before .before .before .before .before .before .before .before .before in
+    let done = rounds .before .before .before .before .before .before .before .before .before in
+    let s = done .before .before .before .before .before .before .before .before .before .before in
     let a = s .args in
-    counted (finish-given (frame (a .width) (a .height) (a .layout) (now (a .mosaic))) (a .settings) (lent (now (a .red)) (now (a .green)) (now (a .blue)) (now (a .work))) (a .tally))
+    counted (finish-given (frame (a .width) (a .height) (a .layout) (now (a .mosaic))) (a .settings) (lent (now (a .red)) (now (a .green)) (now (a .blue)) (now (a .work)) (now (a .wide-work))) (a .tally))
     (done .finish-frame .result) (done .finish-frame .ensures) (rounds .rounds-to-run .ensures)
     (next .next .ensures ∙ ap (λ (n : ℕ). next-tally n (rounds .rounds-to-run .result) (a .tally)) (number .number .ensures)) (c .with-tally .ensures)
 
@@ -68,4 +71,5 @@ finish-spec =
     same-length-2
     same-length-3
     same-length-4
+    same-length-5
     returns)

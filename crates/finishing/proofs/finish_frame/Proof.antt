@@ -15,7 +15,7 @@ returns c = refuses (c .before .lent-refusal .ensures) (λ z. omega (arith, z, c
 
 fill-planes-requires : tie.Need-fill-planes-requires
 fill-planes-requires c κs =
-    let e = c .before .before .before .before in
+    let e = c .before .before .before .before .before in
     omega (arith, e .if1 .left) ∙ e .before .lent-refusal .ensures
 
 same-length : tie.Need-same-length
@@ -30,10 +30,13 @@ same-length-3 c = search needs
 same-length-4 : tie.Need-same-length-4
 same-length-4 c = search needs
 
+same-length-5 : tie.Need-same-length-5
+same-length-5 c = search needs
+
 returns-2 : tie.Need-returns-2
 returns-2 c =
-    let done = c .before .before .before .before .before .before .before in
-    let e = done .before .before .before .before .before in
+    let done = c .before .before .before .before .before .before .before .before in
+    let e = done .before .before .before .before .before .before in
     plain-accepts (e .before .lent-refusal .ensures) (omega (arith, e .if1 .left)) (done .fill-planes .ensures)
 
 pub finish-frame-spec : {M : Type 1} → statement M
@@ -47,4 +50,5 @@ finish-frame-spec =
     same-length-2
     same-length-3
     same-length-4
+    same-length-5
     returns-2)

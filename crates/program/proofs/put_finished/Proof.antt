@@ -54,9 +54,12 @@ part-blue-end c = let k = known (c .before .before .before .before .before) in o
 slice-aggregate-put-planes : tie.Need-slice-aggregate-put-planes
 slice-aggregate-put-planes c = search needs
 
+slice-aggregate-put-planes-2 : tie.Need-slice-aggregate-put-planes-2
+slice-aggregate-put-planes-2 c = search needs
+
 put-planes-requires : tie.Need-put-planes-requires
 put-planes-requires c κs =
-    let s = c .before .before .before .before .before .before .before .before in
+    let s = c .before .before .before .before .before .before .before .before .before in
     let k = known s in (
       s .pre .0,
       (
@@ -67,6 +70,7 @@ put-planes-requires c κs =
           green-room = simp (length-take, length-drop) (omega (arith, k .few));
           blue-room = simp (length-take, length-drop) (omega (arith, k .few));
           work-room = omega (arith, k .few);
+          wide-room = omega (arith, k .few);
           text-room = omega (arith, k .few);
         },
       ),
@@ -93,5 +97,6 @@ put-finished-spec =
     part-blue-start
     part-blue-end
     slice-aggregate-put-planes
+    slice-aggregate-put-planes-2
     put-planes-requires
     returns)

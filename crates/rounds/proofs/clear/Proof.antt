@@ -5,8 +5,8 @@ use mathlib.Core.Bool.{Bool, true, false}
 use denote.Ref.{now}
 use borrow.Author.Needs.{needs}
 use Rattle.integers.proofs.Tests.{tested}
+use Rattle.questions.proofs.Asking.{wide-room}
 use Rattle.work_buffer.specs.Buffer.{zeroed, wide-zeroed}
-use Rattle.rounds.proofs.Calls.{wide-room}
 use Rattle.rounds.proofs.clear.Statement.{statement}
 use Rattle.rounds.proofs.clear.Tie as tie
 
