@@ -5,8 +5,10 @@ use mathlib.Core.Bool.{Bool, true, false}
 use mathlib.Core.List.{List, [], _∷_, _++_}
 use Prim.Native.Nat.{ℕ, zero, suc, _<_, min}
 use native.Mathlib.Omega.{arith}
-use lib.Dec.{T, leb}
+use lib.Dec.{T, leb, leb→le}
 use borrow.Author.Tests.{le-leb, lt-leb, leb-true, leb-false}
+use Rattle.integers.proofs.Tests.{same-test, true-is}
+use Rattle.planes.specs.Layout.{two-levels}
 use Rattle.questions.specs.Settings.{settings, ceiling, ceiling-of}
 use Rattle.questions.specs.Questions.{Question, question, ask, size-questions, shape-questions, settings-questions, frame-questions}
 use Rattle.questions.specs.Calls.{if-accepted, Call, Numbered}
@@ -42,10 +44,17 @@ module _ {A D B : Type 0} (c : Call A B) (d : Call D B) (p : c .questions ≡ d 
 -- ---- a frame's layout l
 module _ (w h layout : ℕ) {l : ℕ} (pl : l ≡ min layout 255) where
   layout-asked : shape-questions w h l ≡ shape-questions w h layout
-  layout-asked = λ i. size-questions 2 w h ++ (question 3 (cut-asked 255 3 layout pl (omega arith) i) ∷ [])
+  layout-asked = λ i. size-questions 2 w h ++ (question 3 (cut-asked 255 7 layout pl (omega arith) i) ∷ [])
 
   layout-kept : AllYes (shape-questions w h layout) → l ≡ layout
-  layout-kept y = cut-kept 255 3 layout pl (omega arith) (y .1 .1 .0)
+  layout-kept y = cut-kept 255 7 layout pl (omega arith) (y .1 .1 .0)
+
+  level-same : two-levels l ≡ two-levels layout
+  unfolding two-levels
+  level-same =
+      same-test (leb 4 l) (leb 4 layout)
+      (λ t. let k = leb→le 4 l t in true-is (le-leb 4 layout (omega (arith, pl, k))))
+      (λ t. let k = leb→le 4 layout t in true-is (le-leb 4 l (omega (arith, pl, k))))
 
   -- a call, by the layout, that asks 1, 2, 3 and then `rest`
   module _ {A B : Type 0} (call : ℕ → Call A B) (rest : List Question) (t : T (numbered rest)) (asks : (x : ℕ) → call x .questions ≡ shape-questions w h x ++ rest) (old : call l .old ≡ call layout .old) where
@@ -75,14 +84,14 @@ module _ (w h layout : ℕ) {l : ℕ} (pl : l ≡ min layout 255) where
     unfolding ceiling-of
     settings-kept y = ps ∙ (λ i. settings (cut-kept 255 64 rounds refl (omega arith) (y .0) i) (cut-kept 65535 ceiling threshold refl (omega arith) (y .1 .0) i))
 
-    -- a call, by layout and settings, that asks 1 to 5 and then `rest`, by the ceiling
-    module _ {A B : Type 0} (call : ℕ → Settings → Call A B) (rest : ℕ → List Question) (t : T (numbered (rest (ceiling-of given))))
-        (asks : (x : ℕ) (g : Settings) → call x g .questions ≡ frame-questions w h x g ++ rest (ceiling-of g)) (old : call l s .old ≡ call layout given .old) where
+    -- a call, by layout and settings, that asks 1 to 5 and then `rest`, by the level and the ceiling
+    module _ {A B : Type 0} (call : ℕ → Settings → Call A B) (rest : Bool → ℕ → List Question) (t : T (numbered (rest (two-levels layout) (ceiling-of given))))
+        (asks : (x : ℕ) (g : Settings) → call x g .questions ≡ frame-questions w h x g ++ rest (two-levels x) (ceiling-of g)) (old : call l s .old ≡ call layout given .old) where
       pub frame-carried : {n : ℕ} {after : B} → Numbered (call l s) n after → Numbered (call layout given) n after
-      frame-carried = carried (call l s) (call layout given) (asks l s ∙ (λ i. (layout-asked i ++ settings-asked i) ++ rest (ceiling-same i)) ∙ sym (asks layout given)) old kept
+      frame-carried = carried (call l s) (call layout given) (asks l s ∙ (λ i. (layout-asked i ++ settings-asked i) ++ rest (level-same i) (ceiling-same i)) ∙ sym (asks layout given)) old kept
         where
           kept : ask (call layout given .questions) ≡ 0 → call l s .new ≡ call layout given .new
           kept z =
-              let y = all-yes-split (frame-questions w h layout given) (rest (ceiling-of given)) (all-yes (frame-questions w h layout given ++ rest (ceiling-of given)) t 0 (sym z ∙ ap ask (asks layout given)) refl) .0 in
+              let y = all-yes-split (frame-questions w h layout given) (rest (two-levels layout) (ceiling-of given)) (all-yes (frame-questions w h layout given ++ rest (two-levels layout) (ceiling-of given)) t 0 (sym z ∙ ap ask (asks layout given)) refl) .0 in
               let p = all-yes-split (shape-questions w h layout) (settings-questions given) y in
               λ i. call (layout-kept (p .0) i) (settings-kept (p .1) i) .new

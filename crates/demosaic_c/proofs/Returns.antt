@@ -131,13 +131,13 @@ frame-shape-or before (turned-frame.Refused n) = before
 
 module _ (turn width height layout : ℕ) {t l : ℕ} (pt : t ≡ min turn 255) (pl : l ≡ min layout 255) where
   shape-asked : shape-turn-questions t width height l ≡ shape-turn-questions turn width height layout
-  shape-asked = λ i. question 16 (cut-asked 255 7 turn pt (omega arith) i) ∷ size-questions 2 width height ++ (question 3 (cut-asked 255 3 layout pl (omega arith) i) ∷ [])
+  shape-asked = λ i. question 16 (cut-asked 255 7 turn pt (omega arith) i) ∷ size-questions 2 width height ++ (question 3 (cut-asked 255 7 layout pl (omega arith) i) ∷ [])
 
   same-turn : leb turn 7 ≡ true → t ≡ turn
   same-turn = cut-kept 255 7 turn pt (omega arith)
 
-  same-layout : leb layout 3 ≡ true → l ≡ layout
-  same-layout = cut-kept 255 3 layout pl (omega arith)
+  same-layout : leb layout 7 ≡ true → l ≡ layout
+  same-layout = cut-kept 255 7 layout pl (omega arith)
 
   shape-kept : ask (shape-turn-questions turn width height layout) ≡ 0 → shape-turned t width height l ≡ shape-turned turn width height layout
   shape-kept z =

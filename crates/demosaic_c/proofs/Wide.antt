@@ -36,16 +36,16 @@ module _ (w h layout : ℕ) (samples : List ℕ) {l : ℕ} (pl : l ≡ min layou
         → Numbered (rounds-call (frame w h layout samples) (settings rounds threshold) before) n after
     rounds-returned before e p =
         frame-carried w h layout pl rounds threshold ps (λ x g. rounds-call (frame w h x samples) g before)
-        (λ top. buffer-questions top (w * h) samples (rooms-of before) ++ planes-questions top (before .three)) tt (λ x g. refl) refl (to-number e p)
+        (λ two top. buffer-questions top two (w * h) samples (rooms-of before) ++ planes-questions top (before .three)) tt (λ x g. refl) refl (to-number e p)
 
     pub finish-returned : (before : Lent) {r : Answer} {after : Lent} {n : ℕ} → Result (finish-call (frame w h l samples) s before) r after → n ≡ number-of-answer r
         → Numbered (finish-call (frame w h layout samples) (settings rounds threshold) before) n after
     finish-returned before e p =
-        frame-carried w h layout pl rounds threshold ps (λ x g. finish-call (frame w h x samples) g before) (λ top. buffer-questions top (w * h) samples (rooms-of before)) tt (λ x g. refl) refl (to-number e p)
+        frame-carried w h layout pl rounds threshold ps (λ x g. finish-call (frame w h x samples) g before) (λ two top. buffer-questions top two (w * h) samples (rooms-of before)) tt (λ x g. refl) refl (to-number e p)
 
     -- the writer, and how many bytes it wrote
     pub write-returned : (out : List ℕ) (before : ℕ) {after : List ℕ × ℕ} {n : ℕ} → Numbered (length-call (fields w h l s) samples out before) n after
         → Numbered (length-call (fields w h layout (settings rounds threshold)) samples out before) n after
     write-returned out before =
         frame-carried w h layout pl rounds threshold ps (λ x g. length-call (fields w h x g) samples out before)
-        (λ top. question 6 (eqb (length samples) (w * h)) ∷ samples-question top samples ∷ question 14 (leb (2 * (w * h) + 12) (length out)) ∷ []) tt (λ x g. refl) refl
+        (λ two top. question 6 (eqb (length samples) (w * h)) ∷ samples-question top samples ∷ question 14 (leb (2 * (w * h) + 12) (length out)) ∷ []) tt (λ x g. refl) refl

@@ -322,8 +322,9 @@ pub extern "C" fn demosaic_rounds(
     green: &[u16],
     blue: &mut [u16],
     work: &mut [i32],
+    wide_work: &mut [i64],
 ) -> u32
-    ensures { λ r. ⌜ Numbered (rounds-call (frame width height layout (now (mosaic .entry))) (settings rounds threshold) (lent (now (red .entry)) (now (green .entry)) (now (blue .entry)) (now (work .entry)))) r (lent (now (red .exit)) (now (green .entry)) (now (blue .exit)) (now (work .exit))) ⌝ }
+    ensures { λ r. ⌜ Numbered (rounds-call (frame width height layout (now (mosaic .entry))) (settings rounds threshold) (lent (now (red .entry)) (now (green .entry)) (now (blue .entry)) (now (work .entry)) (now («wide_work» .entry)))) r (lent (now (red .exit)) (now (green .entry)) (now (blue .exit)) (now (work .exit)) (now («wide_work» .exit))) ⌝ }
 {
     let given = byte(layout);
     let settings = cut_settings(rounds, threshold);
@@ -337,6 +338,7 @@ pub extern "C" fn demosaic_rounds(
         green,
         blue,
         work,
+        wide_work,
     ).number()
 }
 
@@ -353,8 +355,9 @@ pub extern "C" fn demosaic_finish(
     green: &mut [u16],
     blue: &mut [u16],
     work: &mut [i32],
+    wide_work: &mut [i64],
 ) -> u32
-    ensures { λ r. ⌜ Numbered (finish-call (frame width height layout (now (mosaic .entry))) (settings rounds threshold) (lent (now (red .entry)) (now (green .entry)) (now (blue .entry)) (now (work .entry)))) r (lent (now (red .exit)) (now (green .exit)) (now (blue .exit)) (now (work .exit))) ⌝ }
+    ensures { λ r. ⌜ Numbered (finish-call (frame width height layout (now (mosaic .entry))) (settings rounds threshold) (lent (now (red .entry)) (now (green .entry)) (now (blue .entry)) (now (work .entry)) (now («wide_work» .entry)))) r (lent (now (red .exit)) (now (green .exit)) (now (blue .exit)) (now (work .exit)) (now («wide_work» .exit))) ⌝ }
 {
     let given = byte(layout);
     let settings = cut_settings(rounds, threshold);
@@ -368,6 +371,7 @@ pub extern "C" fn demosaic_finish(
         green,
         blue,
         work,
+        wide_work,
     );
     answer.number()
 }

@@ -18,18 +18,21 @@ number-requires : tie.Need-number-requires
 number-requires c κs = search needs
 
 same-length : tie.Need-same-length
-same-length c = c .before .before .before .before .before .before .rounds .kept .1 .1 .1 .1 .1 .0
+same-length c = c .before .before .before .before .before .before .before .rounds .kept .1 .1 .1 .1 .1 .0
 
 same-length-2 : tie.Need-same-length-2
-same-length-2 c = c .before .before .before .before .before .before .rounds .kept .1 .1 .1 .1 .1 .1 .1 .0
+same-length-2 c = c .before .before .before .before .before .before .before .rounds .kept .1 .1 .1 .1 .1 .1 .1 .0
 
 same-length-3 : tie.Need-same-length-3
-same-length-3 c = c .before .before .before .before .before .before .rounds .kept .1 .1 .1 .1 .1 .1 .1 .1 .0
+same-length-3 c = c .before .before .before .before .before .before .before .rounds .kept .1 .1 .1 .1 .1 .1 .1 .1 .0
+
+same-length-4 : tie.Need-same-length-4
+same-length-4 c = c .before .before .before .before .before .before .before .rounds .kept .1 .1 .1 .1 .1 .1 .1 .1 .1 .0
 
 returns : tie.Need-returns
 returns c =
-    let e = c .before .before .before .before .before .before in
-    let cut = e .before .before .before .before in
+    let e = c .before .before .before .before .before .before .before in
+    let cut = e .before .before .before .before .before in
     rounds-returned _ _ _ _ (cut .before .byte .ensures) _ _ (cut .cut-settings .ensures) _ (e .rounds .ensures) (c .number .ensures)
 
 pub demosaic-rounds-spec : {M : Type 1} → statement M
@@ -43,4 +46,5 @@ demosaic-rounds-spec =
     same-length
     same-length-2
     same-length-3
+    same-length-4
     returns)
