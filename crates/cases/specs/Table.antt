@@ -10,8 +10,7 @@ use Rattle.filters.specs.Bank.{Bands}
 use Rattle.bank.specs.Calls.{split-lists, join-list}
 use Rattle.questions.specs.Settings.{ceiling, settings}
 use Rattle.neighbourhood.specs.Place.{around, hamilton-adams}
-use Rattle.projection.specs.Projection.{held}
-use Rattle.rounds.specs.Rounds.{limit-of}
+use Rattle.projection.specs.Projection.{held, limits-of}
 use Rattle.rounds.specs.Calls.{rounds-lists}
 
 pub data Letter : Type 0 where
@@ -57,9 +56,9 @@ table =
     ∷ case d (in-order (split-lists 3 1 row) ++ join-list 3 1 (split-lists 3 1 row))
     ((pos 64 ∷ pos 64 ∷ pos 64 ∷ []) ++ (pos 64 ∷ negℤ (pos 64) ∷ pos 64 ∷ []) ++ (pos 0 ∷ pos 0 ∷ pos 0 ∷ []) ++ (pos 0 ∷ pos 0 ∷ pos 0 ∷ []) ++ (pos 0 ∷ pos 8192 ∷ pos 0 ∷ []))
     -- T = 1, green band 0: 17 becomes 16, 16 stays, −17 becomes −16
-    ∷ case e (held (limit-of 1) (pos 0) (pos 17) ∷ []) (pos 16 ∷ [])
-    ∷ case f (held (limit-of 1) (pos 0) (pos 16) ∷ []) (pos 16 ∷ [])
-    ∷ case g (held (limit-of 1) (pos 0) (negℤ (pos 17)) ∷ []) (negℤ (pos 16) ∷ [])
+    ∷ case e (held (limits-of 1 .first) (pos 0) (pos 17) ∷ []) (pos 16 ∷ [])
+    ∷ case f (held (limits-of 1 .first) (pos 0) (pos 16) ∷ []) (pos 16 ∷ [])
+    ∷ case g (held (limits-of 1 .first) (pos 0) (negℤ (pos 17)) ∷ []) (negℤ (pos 16) ∷ [])
     -- two away by columns 100 and 100: green 50; 60 and 60: 60; 90 and 90: 58
     ∷ case h (green-of 100 ∷ []) (pos 50 ∷ [])
     ∷ case i (green-of 60 ∷ []) (pos 60 ∷ [])

@@ -25,13 +25,13 @@ number-requires-2 c κs = search needs
 
 -- the two finishings, and the turning calls between them
 abbrev second-run : tie.After-number2 → tie.After-finish-standing2
-second-run c = c .before .before .before .before .before .before .before .before .before
+second-run c = c .before .before .before .before .before .before .before .before .before .before
 
 abbrev moving : tie.After-number2 → tie.After-turn-all
-moving c = second-run c .before .before .before .before .before .before .before .before .before .before .before
+moving c = second-run c .before .before .before .before .before .before .before .before .before .before .before .before
 
 abbrev first-run : tie.After-number2 → tie.After-finish-standing
-first-run c = moving c .before .before .before .before .before .before .before .before .before .before
+first-run c = moving c .before .before .before .before .before .before .before .before .before .before .before
 
 same-length : tie.Need-same-length
 same-length c = moving c .turn-all .kept .1 .1 .0
@@ -52,22 +52,28 @@ same-length-6 : tie.Need-same-length-6
 same-length-6 c = first-run c .finish-standing .kept .1 .1 .1 .1 .1 .1 .1 .0
 
 same-length-7 : tie.Need-same-length-7
-same-length-7 c = second-run c .finish-standing2 .kept .1 .1 .1 .1 .0
+same-length-7 c = first-run c .finish-standing .kept .1 .1 .1 .1 .1 .1 .1 .1 .0
 
 same-length-8 : tie.Need-same-length-8
-same-length-8 c = second-run c .finish-standing2 .kept .1 .1 .1 .1 .1 .0
+same-length-8 c = second-run c .finish-standing2 .kept .1 .1 .1 .1 .0
 
 same-length-9 : tie.Need-same-length-9
-same-length-9 c = second-run c .finish-standing2 .kept .1 .1 .1 .1 .1 .1 .0
+same-length-9 c = second-run c .finish-standing2 .kept .1 .1 .1 .1 .1 .0
 
 same-length-10 : tie.Need-same-length-10
-same-length-10 c = second-run c .finish-standing2 .kept .1 .1 .1 .1 .1 .1 .1 .0
+same-length-10 c = second-run c .finish-standing2 .kept .1 .1 .1 .1 .1 .1 .0
+
+same-length-11 : tie.Need-same-length-11
+same-length-11 c = second-run c .finish-standing2 .kept .1 .1 .1 .1 .1 .1 .1 .0
+
+same-length-12 : tie.Need-same-length-12
+same-length-12 c = second-run c .finish-standing2 .kept .1 .1 .1 .1 .1 .1 .1 .1 .0
 
 returns : tie.Need-returns
 returns c =
-    let a = first-run c .before .before .before .before .before .before .before .before .before .before .before .before .before .before .before .before .args in
+    let a = first-run c .before .before .before .before .before .before .before .before .before .before .before .before .before .before .before .before .before .args in
     run-alike (now (a .turns)) (frame (a .width) (a .height) (a .layout) (now (a .first))) (now (a .second)) (a .settings)
-    (lent (now (a .red1)) (now (a .green1)) (now (a .blue1)) (now (a .work1))) (lent (now (a .red2)) (now (a .green2)) (now (a .blue2)) (now (a .work2)))
+    (lent (now (a .red1)) (now (a .green1)) (now (a .blue1)) (now (a .work1)) (now (a .wide1))) (lent (now (a .red2)) (now (a .green2)) (now (a .blue2)) (now (a .work2)) (now (a .wide2)))
     (first-run c .finish-standing .ensures) (moving c .turn-all .ensures) (second-run c .finish-standing2 .ensures) (c .before .number .ensures) (c .number2 .ensures)
 
 pub finish-turned-spec : {M : Type 1} → statement M
@@ -89,4 +95,6 @@ finish-turned-spec =
     same-length-8
     same-length-9
     same-length-10
+    same-length-11
+    same-length-12
     returns)

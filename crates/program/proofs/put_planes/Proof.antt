@@ -16,8 +16,8 @@ finish-frame-requires c κs = search needs
 
 put-frame-requires : tie.Need-put-frame-requires
 put-frame-requires c κs =
-    let finished = c .before .before .before .before .before .before .before .before .before .before .before in
-    let filled = finished .before .before .before .before .before .before .before .before .before in
+    let finished = c .before .before .before .before .before .before .before .before .before .before .before .before in
+    let filled = finished .before .before .before .before .before .before .before .before .before .before in
     let s = filled .before .before .before .before .before .before .before .before in
     let k = finishable (now (s .args .input)) (s .pre .0) (s .args .f) (s .pre .1 .0) in
     let kept = finished .finish-frame .kept .1 .1 .1 .1 .1 in
@@ -42,11 +42,14 @@ same-length-5 c = search needs
 same-length-6 : tie.Need-same-length-6
 same-length-6 c = search needs
 
+same-length-7 : tie.Need-same-length-7
+same-length-7 c = search needs
+
 returns : tie.Need-returns
 returns c =
     let printed = c .before .before in
-    let finished = printed .before .before .before .before .before .before .before .before .before .before .before .before in
-    let filled = finished .before .before .before .before .before .before .before .before .before in
+    let finished = printed .before .before .before .before .before .before .before .before .before .before .before .before .before in
+    let filled = finished .before .before .before .before .before .before .before .before .before .before in
     let s = filled .before .before .before .before .before .before .before .before in
     text-printed (now (s .args .input)) (s .pre .0) (s .args .f) (s .pre .1 .0) _ (s .pre .1 .1) (filled .read-mosaic .ensures) (finished .finish-frame .ensures) (printed .put-frame .ensures)
 
@@ -63,4 +66,5 @@ put-planes-spec =
     same-length-4
     same-length-5
     same-length-6
+    same-length-7
     returns)
