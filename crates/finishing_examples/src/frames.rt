@@ -15,6 +15,7 @@ pub(crate) struct Example {
     pub(crate) green: usize,
     pub(crate) blue: usize,
     pub(crate) work: usize,
+    pub(crate) wide: usize,
 }
 
 // The samples, of which a frame takes the first ones. One is given.
@@ -46,6 +47,7 @@ pub(crate) fn of(
         green: count,
         blue: count,
         work: 8 * count,
+        wide: 8 * count,
     }
 }
 

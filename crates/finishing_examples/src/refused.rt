@@ -13,12 +13,12 @@ pub(crate) fn settings() {
     show(frames::of(2049, 2, 12, 0, 2, 20));
     show(frames::of(2, 1, 2, 0, 2, 20));
     show(frames::of(2, 2049, 12, 0, 2, 20));
-    show(frames::two_by_two(4, 2, 20));
+    show(frames::two_by_two(8, 2, 20));
     show(frames::two_by_two(0, 65, 20));
     show(frames::two_by_two(0, 2, 4096));
 }
 
-// Questions 6, 7 of each plane, and 8: one number less than is needed, and one more where that is too many.
+// Questions 6, 7 of each plane, 8 and 18: one number less than is needed, and one more where that is too many.
 pub(crate) fn lengths() {
     let mut e = frames::three_by_two(1, 2, 20);
     e.first = 5;
@@ -43,14 +43,18 @@ pub(crate) fn lengths() {
     e.blue = 6;
     e.work = 47;
     show(e);
+    e.work = 48;
+    e.layout = 5;
+    e.wide = 47;
+    show(e);
 }
 
-// Questions 1 to 9 answered no; then those before one after another answered yes, until 9 alone is answered no, and at last none.
+// Questions 1 to 9 and 18 answered no; then those before one after another answered yes, until 9 alone is answered no, and at last none.
 pub(crate) fn in_order() {
     let mut e = Example {
         width: 1,
         height: 1,
-        layout: 4,
+        layout: 8,
         rounds: 65,
         threshold: 4096,
         sample: 4096,
@@ -60,13 +64,14 @@ pub(crate) fn in_order() {
         green: 5,
         blue: 5,
         work: 7,
+        wide: 7,
     };
     show(e);
     e.width = 3;
     show(e);
     e.height = 2;
     show(e);
-    e.layout = 3;
+    e.layout = 7;
     show(e);
     e.rounds = 64;
     show(e);
@@ -81,6 +86,8 @@ pub(crate) fn in_order() {
     e.blue = 6;
     show(e);
     e.work = 48;
+    show(e);
+    e.wide = 48;
     show(e);
     e.sample = 4095;
     show(e);

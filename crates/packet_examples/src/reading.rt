@@ -59,9 +59,9 @@ fn refusals_with(place: usize, values: &[u8])
     print::end_line();
 }
 
-// Each byte of the packet, replaced by each of nine.
+// Each byte of the packet, replaced by each of ten.
 pub(crate) fn replaced_bytes() {
-    let values = [0u8, 1, 2, 3, 4, 5, 16, 65, 255];
+    let values = [0u8, 1, 2, 3, 4, 7, 8, 16, 65, 255];
     let mut place = 0;
     while place < 20 {
         refusals_with(place, &values);

@@ -48,13 +48,14 @@ pub(crate) fn sound_pairs() {
     let larger = stores::three_by_two();
     pair(&longer, &store);
     pair(&store, &larger);
+    pair(&store, &stores::with(12, 4));
 }
 
 // Where both packets are refused, the first one's number is answered.
 pub(crate) fn refused_pairs() {
     let store = stores::two_by_two();
     let narrow = stores::with(8, 1);
-    let no_layout = stores::with(12, 4);
+    let no_layout = stores::with(12, 8);
     pair(&narrow, &no_layout);
     pair(&no_layout, &narrow);
     pair(&store[9..20], &narrow);

@@ -40,11 +40,12 @@ fn fields(width: usize, height: usize, layout: u8, rounds: u8, threshold: u16) -
     }
 }
 
-// Room for one byte less than the packet, for the packet, and for two bytes more, which stay.
+// Room for one byte less than the packet, for the packet, and for two bytes more, which stay; and for a packet with two levels.
 pub(crate) fn lengths() {
     example(fields(3, 2, 1, 64, 4095), 4095, 23);
     example(fields(3, 2, 1, 64, 4095), 4095, 24);
     example(fields(3, 2, 1, 64, 4095), 4095, 26);
+    example(fields(3, 2, 7, 64, 4095), 4095, 24);
 }
 
 // Questions 1 to 6 and 9 answered no, and last 9 and 14 both.
@@ -53,7 +54,7 @@ pub(crate) fn refusals() {
     example(fields(2049, 2, 1, 64, 4095), 4095, 26);
     example(fields(3, 1, 1, 64, 4095), 4095, 26);
     example(fields(3, 2049, 1, 64, 4095), 4095, 26);
-    example(fields(3, 2, 4, 64, 4095), 4095, 26);
+    example(fields(3, 2, 8, 64, 4095), 4095, 26);
     example(fields(3, 2, 1, 65, 4095), 4095, 26);
     example(fields(3, 2, 1, 64, 4096), 4095, 26);
     example(fields(2, 2, 1, 64, 4095), 4095, 26);

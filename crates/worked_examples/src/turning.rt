@@ -115,11 +115,11 @@ fn refused_first() {
     let three = [0u16, 1, 2];
     let mut room = [7u16; 3];
     let most = 18446744073709551615;
-    example(255, 0, 0, 4, &three, &mut room);
+    example(255, 0, 0, 8, &three, &mut room);
     example(3, most, most, 255, &three, &mut room);
-    example(1, 1, 2049, 4, &three, &mut room);
-    example(5, 2, 2049, 4, &three, &mut room);
-    example(7, 2, 2, 4, &three, &mut room);
+    example(1, 1, 2049, 8, &three, &mut room);
+    example(5, 2, 2049, 8, &three, &mut room);
+    example(7, 2, 2, 8, &three, &mut room);
     example(2, 2, 2, 2, &three, &mut room);
 }
 
@@ -144,7 +144,7 @@ pub(crate) fn refusals() {
 
 fn by_each_layout(turn: u8, width: usize, height: usize, samples: &[u16], out: &mut [u16]) {
     let mut layout = 0;
-    while layout < 4 {
+    while layout < 8 {
         example(turn, width, height, layout, samples, out);
         layout += 1;
     }

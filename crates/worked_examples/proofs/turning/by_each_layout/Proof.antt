@@ -7,10 +7,10 @@ use Rattle.worked_examples.proofs.turning.by_each_layout.Statement.{sta
 use Rattle.worked_examples.proofs.turning.by_each_layout.Tie as tie
 
 abbrev Inv-loop : tie.InvT-loop
-Inv-loop turn width height samples out₀ layout₀ out layout = (layout ≤ 4) × (length out ≡ length out₀)
+Inv-loop turn width height samples out₀ layout₀ out layout = (layout ≤ 8) × (length out ≡ length out₀)
 
 abbrev μ-loop : tie.MeasureT-loop
-μ-loop turn width height samples out₀ layout₀ out layout = 4 - layout
+μ-loop turn width height samples out₀ layout₀ out layout = 8 - layout
 
 loop-holds : tie.Need-loop-holds Inv-loop μ-loop
 loop-holds c = search needs
