@@ -39,9 +39,9 @@ pub fn zero_wide(wide: &mut [i64], n: usize)
     requires { ⌜ n ≤ length (now wide) ⌝ }
     ensures { λ _. ⌜ now (wide .exit) ≡ overwrite (now (wide .entry)) 0 n (λ k. pos 0) ⌝ }
 {
-    let mut k = 0;
-    while k < n {
-        wide[k] = 0;
-        k += 1;
+    let mut i = 0;
+    while i < n {
+        wide[i] = 0;
+        i += 1;
     }
 }

@@ -2,6 +2,7 @@
 -- Assumes nothing.
 use mathlib.Core.Path.{sym, _∙_, ap}
 use mathlib.Core.Bool.{Bool, true, false}
+use native.Mathlib.Omega.{arith}
 use denote.Ref.{now}
 use borrow.Author.Needs.{needs}
 use Rattle.integers.proofs.Tests.{tested}
@@ -41,7 +42,8 @@ zero-wide-requires : tie.Need-zero-wide-requires
 zero-wide-requires c κs =
     let e = c .before in
     let t = e .before in
-    wide-room _ _ _ (start t .pre .2) (tested false (t .two-levels .ensures) (e .if1 .left))
+    let room = wide-room _ _ _ (start t .pre .2) (tested false (t .two-levels .ensures) (e .if1 .left)) in
+    omega (arith, room)
 
 same-length-2 : tie.Need-same-length-2
 same-length-2 c = search needs

@@ -1,4 +1,4 @@
--- `work_buffer::zero_wide` meets its contract: after k turns, k numbers are 0.
+-- `work_buffer::zero_wide` meets its contract: after i turns, i numbers are 0.
 -- Assumes nothing.
 use mathlib.Core.Path.{_≡_, refl, _∙_, ap}
 use Prim.Native.Nat.{ℕ, _-_, _≤_}
@@ -12,10 +12,10 @@ use Rattle.work_buffer.proofs.zero_wide.Statement.{statement}
 use Rattle.work_buffer.proofs.zero_wide.Tie as tie
 
 abbrev Inv-loop : tie.InvT-loop
-Inv-loop wide₀ n k₀ wide k = (k ≤ n) × (wide ≡ overwrite wide₀ 0 k (λ j. pos 0)) × (length wide ≡ length wide₀)
+Inv-loop wide₀ n i₀ wide i = (i ≤ n) × (wide ≡ overwrite wide₀ 0 i (λ j. pos 0)) × (length wide ≡ length wide₀)
 
 abbrev μ-loop : tie.MeasureT-loop
-μ-loop wide₀ n k₀ wide k = n - k
+μ-loop wide₀ n i₀ wide i = n - i
 
 loop-holds : tie.Need-loop-holds Inv-loop μ-loop
 loop-holds c = (omega arith, overwrite-none (now (c .args .wide)) 0 (λ j. pos 0), refl)
@@ -26,8 +26,8 @@ mul-wide c = omega arith
 slice-set-of-wide : tie.Need-slice-set-of-wide Inv-loop μ-loop
 slice-set-of-wide c = omega arith
 
-add-k : tie.Need-add-k Inv-loop μ-loop
-add-k c = omega arith
+add-i : tie.Need-add-i Inv-loop μ-loop
+add-i c = omega arith
 
 loop-less : tie.Need-loop-less Inv-loop μ-loop
 loop-less c = omega arith
@@ -37,7 +37,7 @@ loop-again c =
     let l = c .before in
     let s = l .before in (
       omega arith,
-      overwrite-step (now (s .args .wide)) 0 (l .loop .k) (λ j. pos 0) (l .loop .k) (omega arith) (l .loop .inv .1) refl (omega arith),
+      overwrite-step (now (s .args .wide)) 0 (l .loop .i) (λ j. pos 0) (l .loop .i) (omega arith) (l .loop .inv .1) refl (omega arith),
       simp length-set (l .loop .inv .2),
     )
 
@@ -48,7 +48,7 @@ returns : tie.Need-returns Inv-loop μ-loop
 returns c =
     let l = c .before in
     let s = l .before in
-    let all : l .loop .k ≡ s .args .n = omega arith in
+    let all : l .loop .i ≡ s .args .n = omega arith in
     l .loop .inv .1 ∙ ap (λ (k : ℕ). overwrite (now (s .args .wide)) 0 k (λ j. pos 0)) all
 
 pub zero-wide-spec : {M : Type 1} → statement M
@@ -60,7 +60,7 @@ zero-wide-spec =
     loop-holds
     mul-wide
     slice-set-of-wide
-    add-k
+    add-i
     loop-less
     loop-again
     same-length
