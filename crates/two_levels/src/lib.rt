@@ -1,4 +1,4 @@
-// Inner: the rounds of red and of blue at two levels of the bank, with rings that are declared once for all of them.
+// Inner: the rounds of red and of blue at two levels of the bank, with rings that are declared once for all rounds of a colour.
 use working_plane::Colour;
 ghost use mathlib.Core.Path.{_≡_};
 ghost use mathlib.Core.Bool.{true};
@@ -71,6 +71,62 @@ fn run(
     }
 }
 
+// A colour's plane: loaded, worked on through all rounds, and unloaded once. The rings stand here, so that they are declared once for all rounds, and
+// so that this function has them on its stack and its callers do not: it is called twice, and the compiler leaves it by itself.
+fn rewrite(
+    colour: Colour,
+    top: u16,
+    rounds: u8,
+    mosaic: &[u16],
+    green: &[u16],
+    plane: &mut [u16],
+    work: &mut [i32],
+)
+    requires { ⌜ Workable (colour .width) (colour .height) (now mosaic) (now green) (length (now work)) × (colour .row < 2) × (colour .column < 2) × (length (now plane) ≡ colour .width * colour .height) ⌝ }
+    ensures { λ _. ⌜ now (plane .exit) ≡ rewritten-list true colour top rounds (now (mosaic .entry)) (now (green .entry)) (now (plane .entry)) ⌝ }
+    ensures { λ _. ⌜ zeroed (colour .width) (colour .height) (now (work .exit)) ≡ zeroed (colour .width) (colour .height) (now (work .entry)) ⌝ }
+{
+    // Longer than they need be: lines some multiple of 4,096 bytes apart would hinder each other in the machine's loads and stores.
+    let mut differences = [0i32; 6264];
+    let mut band = [0i32; 10360];
+    let mut apart1 = [0i32; 14456];
+    let mut together1 = [0i32; 14456];
+    let mut apart2 = [0i32; 18552];
+    let mut together2 = [0i32; 18552];
+    let mut apart = [0i32; 10360];
+    let mut together = [0i32; 10360];
+    let mut rests = [0i32; 10360];
+    let mut low = [0i32; 2168];
+    let mut high = [0i32; 2168];
+    let mut parts = [0i32; 2168];
+    let mut minus = [0i32; 2168];
+    let mut plus = [0i32; 2168];
+    working_plane::load(plane, work);
+    run(
+        colour,
+        top,
+        rounds,
+        mosaic,
+        green,
+        work,
+        &mut differences,
+        &mut band,
+        &mut apart1,
+        &mut together1,
+        &mut apart2,
+        &mut together2,
+        &mut apart,
+        &mut together,
+        &mut rests,
+        &mut low,
+        &mut high,
+        &mut parts,
+        &mut minus,
+        &mut plus,
+    );
+    working_plane::unload(work, plane);
+}
+
 // Red, and then blue. The work buffer's first 8 · width · height numbers are scratch.
 pub fn rewrite_both(
     reds: Colour,
@@ -88,68 +144,7 @@ pub fn rewrite_both(
     ensures { λ _. ⌜ now (blue .exit) ≡ rewritten-list true (other reds) top rounds (now (mosaic .entry)) (now (green .entry)) (now (blue .entry)) ⌝ }
     ensures { λ _. ⌜ zeroed (reds .width) (reds .height) (now (work .exit)) ≡ zeroed (reds .width) (reds .height) (now (work .entry)) ⌝ }
 {
-    // Longer than they need be: lines some multiple of 4,096 bytes apart would hinder each other in the machine's loads and stores.
-    let mut differences = [0i32; 6264];
-    let mut band = [0i32; 10360];
-    let mut apart1 = [0i32; 14456];
-    let mut together1 = [0i32; 14456];
-    let mut apart2 = [0i32; 18552];
-    let mut together2 = [0i32; 18552];
-    let mut apart = [0i32; 10360];
-    let mut together = [0i32; 10360];
-    let mut rests = [0i32; 10360];
-    let mut low = [0i32; 2168];
-    let mut high = [0i32; 2168];
-    let mut parts = [0i32; 2168];
-    let mut minus = [0i32; 2168];
-    let mut plus = [0i32; 2168];
-    working_plane::load(red, work);
-    run(
-        reds,
-        top,
-        rounds,
-        mosaic,
-        green,
-        work,
-        &mut differences,
-        &mut band,
-        &mut apart1,
-        &mut together1,
-        &mut apart2,
-        &mut together2,
-        &mut apart,
-        &mut together,
-        &mut rests,
-        &mut low,
-        &mut high,
-        &mut parts,
-        &mut minus,
-        &mut plus,
-    );
-    working_plane::unload(work, red);
     let blues = working_plane::other(reds);
-    working_plane::load(blue, work);
-    run(
-        blues,
-        top,
-        rounds,
-        mosaic,
-        green,
-        work,
-        &mut differences,
-        &mut band,
-        &mut apart1,
-        &mut together1,
-        &mut apart2,
-        &mut together2,
-        &mut apart,
-        &mut together,
-        &mut rests,
-        &mut low,
-        &mut high,
-        &mut parts,
-        &mut minus,
-        &mut plus,
-    );
-    working_plane::unload(work, blue);
+    rewrite(reds, top, rounds, mosaic, green, red, work);
+    rewrite(blues, top, rounds, mosaic, green, blue, work);
 }

@@ -1,0 +1,159 @@
+-- `two_levels::rewrite` meets its contract: the plane is loaded, goes through the rounds, and is unloaded; the rings and lines are its own.
+-- Assumes nothing.
+use mathlib.Core.Path.{refl}
+use mathlib.Core.Bool.{true}
+use Prim.Native.Nat.{ℕ, _+_, _*_, _≤_}
+use native.Mathlib.Omega.{arith}
+use lib.ListN.{getD, length}
+use denote.Ref.{now}
+use borrow.Author.Needs.{needs}
+use Rattle.working_plane.proofs.Working.{first-narrow, first-workable, last-narrow, last-long, scratched, unloaded}
+use Rattle.two_levels.proofs.rewrite.Statement.{statement}
+use Rattle.two_levels.proofs.rewrite.Tie as tie
+
+-- where the function starts, and where the plane is loaded
+abbrev start : tie.After-load → tie.Start
+start l = l .before .before .before .before .before .before
+
+abbrev load-of : tie.After-run → tie.After-load
+load-of r = r .before .before .before .before .before .before .before .before .before .before .before .before .before .before .before .before .before
+
+-- samples and the ceiling have 16 bits
+mosaic-small : (c : tie.After-shared-slice-known) (k : ℕ) → getD (now (c .before .args .mosaic)) k 0 ≤ 65535
+mosaic-small c k = omega (arith, c .shared-slice-known .given k)
+
+plane-small : (c : tie.After-slice-known) (k : ℕ) → getD (now (c .before .before .before .args .plane)) k 0 ≤ 65535
+plane-small c k = omega (arith, c .slice-known .given k)
+
+top-small : (s : tie.Start) → s .args .top ≤ 65535
+top-small s = omega (arith, s .good .1 .0)
+
+room : (s : tie.Start) → s .args .colour .width * s .args .colour .height ≤ length (now (s .args .work))
+room s = omega (arith, s .pre .0 .work)
+
+-- the rings and lines are long enough
+rows-3 : {w : ℕ} → w ≤ 2048 → 3 * w ≤ 6264
+rows-3 h = omega (arith, h)
+
+rows-5 : {w : ℕ} → w ≤ 2048 → 5 * w ≤ 10360
+rows-5 h = omega (arith, h)
+
+rows-7 : {w : ℕ} → w ≤ 2048 → 7 * w ≤ 14456
+rows-7 h = omega (arith, h)
+
+rows-9 : {w : ℕ} → w ≤ 2048 → 9 * w ≤ 18552
+rows-9 h = omega (arith, h)
+
+line : {w : ℕ} → w ≤ 2048 → w + 8 ≤ 2168
+line h = omega (arith, h)
+
+load-requires : tie.Need-load-requires
+load-requires c κs = search needs
+
+slice-aggregate-run : tie.Need-slice-aggregate-run
+slice-aggregate-run c = refl
+
+slice-aggregate-run-2 : tie.Need-slice-aggregate-run-2
+slice-aggregate-run-2 c = refl
+
+slice-aggregate-run-3 : tie.Need-slice-aggregate-run-3
+slice-aggregate-run-3 c = refl
+
+slice-aggregate-run-4 : tie.Need-slice-aggregate-run-4
+slice-aggregate-run-4 c = refl
+
+slice-aggregate-run-5 : tie.Need-slice-aggregate-run-5
+slice-aggregate-run-5 c = refl
+
+slice-aggregate-run-6 : tie.Need-slice-aggregate-run-6
+slice-aggregate-run-6 c = refl
+
+slice-aggregate-run-7 : tie.Need-slice-aggregate-run-7
+slice-aggregate-run-7 c = refl
+
+slice-aggregate-run-8 : tie.Need-slice-aggregate-run-8
+slice-aggregate-run-8 c = refl
+
+slice-aggregate-run-9 : tie.Need-slice-aggregate-run-9
+slice-aggregate-run-9 c = refl
+
+slice-aggregate-run-10 : tie.Need-slice-aggregate-run-10
+slice-aggregate-run-10 c = refl
+
+slice-aggregate-run-11 : tie.Need-slice-aggregate-run-11
+slice-aggregate-run-11 c = refl
+
+slice-aggregate-run-12 : tie.Need-slice-aggregate-run-12
+slice-aggregate-run-12 c = refl
+
+slice-aggregate-run-13 : tie.Need-slice-aggregate-run-13
+slice-aggregate-run-13 c = refl
+
+slice-aggregate-run-14 : tie.Need-slice-aggregate-run-14
+slice-aggregate-run-14 c = refl
+
+run-requires : tie.Need-run-requires
+run-requires c κs =
+    let l = c .before .before .before .before .before .before .before .before .before .before .before .before .before .before .before .before in
+    let s = start l in
+    let a = s .args in
+    let w = s .pre .0 .sizes .width-to in (
+      (first-workable true (a .colour) (a .top) (now (a .mosaic)) (now (a .green)) (now (a .plane)) (now (a .work)) (room s) (s .pre .3) (l .load .ensures) (s .pre .0), s .pre .1, s .pre .2, first-narrow true (a .colour) (a .top) (now (a .mosaic)) (now (a .green)) (now (a .plane)) (now (a .work)) (room s) (s .pre .3) (l .load .ensures) (plane-small (l .before .before .before))),
+      (
+        (rows-3 w, rows-5 w, rows-7 w, rows-7 w, rows-9 w, rows-9 w),
+        ((rows-5 w, rows-5 w, rows-5 w), (line w, line w, line w, line w, line w)),
+      ),
+    )
+
+unload-requires : tie.Need-unload-requires
+unload-requires c κs =
+    let r = c .before .before .before .before .before .before .before .before .before .before .before .before .before .before .before .before .before in
+    let l = load-of r in
+    let s = start l in
+    let a = s .args in
+    last-narrow true (a .colour) (a .top) (now (a .mosaic)) (now (a .green)) (now (a .plane)) (now (a .work)) (room s) (s .pre .3) (l .load .ensures) _ (r .run .ensures) (top-small s) (plane-small (l .before .before .before)) (mosaic-small (l .before .before .before .before .before))
+
+same-length : tie.Need-same-length
+same-length c = search needs
+
+same-length-2 : tie.Need-same-length-2
+same-length-2 c =
+    let r = c .before .before .before .before .before .before .before .before .before .before .before .before .before .before .before .before .before .before .before .before in
+    let l = load-of r in
+    let s = start l in
+    let a = s .args in
+    last-long true (a .colour) (a .top) (now (a .mosaic)) (now (a .green)) (now (a .plane)) (now (a .work)) (room s) (s .pre .3) (l .load .ensures) _ (r .run .ensures)
+
+returns : tie.Need-returns
+returns c =
+    let u = c .before .before in
+    let r = u .before .before .before .before .before .before .before .before .before .before .before .before .before .before .before .before .before .before in
+    let l = load-of r in
+    let s = start l in
+    let a = s .args in
+    (unloaded true (a .colour) (a .top) (now (a .mosaic)) (now (a .green)) (now (a .plane)) (now (a .work)) (room s) (s .pre .3) (l .load .ensures) _ (r .run .ensures) (u .unload .ensures), scratched true (a .colour) (a .top) (now (a .mosaic)) (now (a .green)) (now (a .plane)) (now (a .work)) (room s) (s .pre .3) (l .load .ensures) _ (r .run .ensures) (s .pre .0 .work))
+
+pub rewrite-spec : {M : Type 1} → statement M
+rewrite-spec =
+    tie.close
+    (tie.spec
+    load-requires
+    slice-aggregate-run
+    slice-aggregate-run-2
+    slice-aggregate-run-3
+    slice-aggregate-run-4
+    slice-aggregate-run-5
+    slice-aggregate-run-6
+    slice-aggregate-run-7
+    slice-aggregate-run-8
+    slice-aggregate-run-9
+    slice-aggregate-run-10
+    slice-aggregate-run-11
+    slice-aggregate-run-12
+    slice-aggregate-run-13
+    slice-aggregate-run-14
+    run-requires
+    unload-requires
+    same-length
+    same-length-2
+    returns)
