@@ -1,5 +1,4 @@
-//! Tells where the engine's static libraries lie. Only what takes in `src/library.rs` links the one, and only what takes in
-//! `src/projections.rs` the other.
+//! Tells where the engine's static library lies. Only what takes in `src/library.rs` links it.
 //!
 //! For the benchmark, the feature `bench`, it also compiles the plain C, by clang and by gcc, into a library.
 
@@ -14,9 +13,7 @@ fn main() {
     let checks = var("CARGO_MANIFEST_DIR").unwrap();
     let directory = Path::new(&checks).join("../target/staticlib");
     println!("cargo::rustc-link-search=native={}", directory.display());
-    for library in ["libdemosaic_c.a", "libprojection_c.a"] {
-        println!("cargo::rerun-if-changed={}", directory.join(library).display());
-    }
+    println!("cargo::rerun-if-changed={}", directory.join("libdemosaic_c.a").display());
     if var_os("CARGO_FEATURE_BENCH").is_some() {
         plain_c(&Path::new(&checks).join("c"));
     }

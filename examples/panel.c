@@ -1,6 +1,6 @@
 /*
  * A panel's program: it reads packets, refuses damaged ones, skips repeats, turns a mirrored head's frames, finishes
- * them and keeps the tally. It is C from C99 on, and C++ too.
+ * them, with one level or two as each packet says, and keeps the tally. It is C from C99 on, and C++ too.
  *
  *     panel TURN FILE...
  *
@@ -27,10 +27,12 @@ struct frame {
     uint32_t layout, rounds, threshold;
 };
 
-/* What a frame needs to be turned and finished. */
+/* What a frame needs to be turned and finished. A frame with one level has no wide work. */
 struct buffers {
     uint16_t *given, *mosaic, *red, *green, *blue;
     int32_t *work;
+    int64_t *wide_work;
+    size_t wide_work_len;
 };
 
 struct tally {
@@ -81,6 +83,12 @@ static uint16_t *new_samples(size_t count)
     return (uint16_t *)malloc(count * sizeof(uint16_t));
 }
 
+/* Whether the packet asks for two levels of the filter bank. A turn keeps that. */
+static int has_two_levels(const struct frame *frame)
+{
+    return frame->layout >= DEMOSAIC_RGGB_TWO_LEVELS;
+}
+
 static int allocate(struct buffers *b, const struct frame *frame)
 {
     size_t count = frame->width * frame->height;
@@ -90,8 +98,14 @@ static int allocate(struct buffers *b, const struct frame *frame)
     b->green = new_samples(count);
     b->blue = new_samples(count);
     b->work = (int32_t *)malloc(DEMOSAIC_WORK_LEN(frame->width, frame->height) * sizeof(int32_t));
+    b->wide_work = NULL;
+    b->wide_work_len = 0;
+    if (has_two_levels(frame)) {
+        b->wide_work_len = DEMOSAIC_WIDE_WORK_LEN(frame->width, frame->height);
+        b->wide_work = (int64_t *)malloc(b->wide_work_len * sizeof(int64_t));
+    }
     return b->given != NULL && b->mosaic != NULL && b->red != NULL && b->green != NULL && b->blue != NULL &&
-           b->work != NULL;
+           b->work != NULL && (b->wide_work != NULL || b->wide_work_len == 0);
 }
 
 static void release(struct buffers *b)
@@ -102,6 +116,7 @@ static void release(struct buffers *b)
     free(b->green);
     free(b->blue);
     free(b->work);
+    free(b->wide_work);
 }
 
 static uint32_t read_frame(const struct store *store, struct frame *frame)
@@ -123,7 +138,7 @@ static uint32_t finish_frame(const struct frame *frame, struct buffers *b)
     size_t count = frame->width * frame->height;
     return demosaic_finish(frame->width, frame->height, frame->layout, frame->rounds, frame->threshold, b->mosaic,
                            count, b->red, count, b->green, count, b->blue, count, b->work,
-                           DEMOSAIC_WORK_LEN(frame->width, frame->height));
+                           DEMOSAIC_WORK_LEN(frame->width, frame->height), b->wide_work, b->wide_work_len);
 }
 
 /* After every finishing call, and after no other. */

@@ -23,6 +23,8 @@ struct frame {
     uint32_t layout, rounds, threshold;
     uint16_t *mosaic, *red, *green, *blue;
     int32_t *work;
+    int64_t *wide_work; /* of two levels alone */
+    size_t wide_work_length;
 };
 
 static int failed(const char *what)
@@ -68,15 +70,9 @@ static int read_store(struct store *store)
     return 0;
 }
 
-/* Takes the frame out of its packet, with room for its planes and for the work. */
-static int open_frame(const struct store *store, struct frame *frame)
+/* Room for the planes and for the work. The frame is filled with zeros before. */
+static int make_room(struct frame *frame)
 {
-    uint32_t number = demosaic_packet_fields(store->bytes, store->length, &frame->width, &frame->height,
-                                             &frame->layout, &frame->rounds, &frame->threshold);
-    if (number != 0) {
-        return refused("the packet is", number);
-    }
-
     size_t n = frame->width * frame->height;
     frame->samples = n;
     frame->mosaic = calloc(n, sizeof *frame->mosaic);
@@ -88,8 +84,26 @@ static int open_frame(const struct store *store, struct frame *frame)
         || frame->work == NULL) {
         return failed("no memory for the frame");
     }
+    if (frame->layout < DEMOSAIC_RGGB_TWO_LEVELS) {
+        return 0;
+    }
+    frame->wide_work_length = DEMOSAIC_WIDE_WORK_LEN(frame->width, frame->height);
+    frame->wide_work = calloc(frame->wide_work_length, sizeof *frame->wide_work);
+    return frame->wide_work == NULL ? failed("no memory for two levels") : 0;
+}
 
-    number = demosaic_packet_samples(store->bytes, store->length, frame->mosaic, n);
+/* Takes the frame out of its packet. */
+static int open_frame(const struct store *store, struct frame *frame)
+{
+    uint32_t number = demosaic_packet_fields(store->bytes, store->length, &frame->width, &frame->height,
+                                             &frame->layout, &frame->rounds, &frame->threshold);
+    if (number != 0) {
+        return refused("the packet is", number);
+    }
+    if (make_room(frame) != 0) {
+        return 1;
+    }
+    number = demosaic_packet_samples(store->bytes, store->length, frame->mosaic, frame->samples);
     return number != 0 ? refused("the packet is", number) : 0;
 }
 
@@ -100,6 +114,7 @@ static void close_frame(struct frame *frame)
     free(frame->green);
     free(frame->blue);
     free(frame->work);
+    free(frame->wide_work);
 }
 
 /* The mean of the four green neighbours of a place, rounded. The border is reflected, the edge not repeated. */
@@ -125,7 +140,8 @@ static int average(struct frame *frame)
         return refused("the estimate is", number);
     }
 
-    /* Row and column add up to the same parity at every place of red and of blue, and to the other at green's. */
+    /* Row and column add up to the same parity at every place of red and of blue, and to the other at green's; the 4 of
+       a layout with two levels changes no place. */
     size_t parity = (frame->layout / 2 + frame->layout % 2) % 2;
     for (size_t k = 0; k < n; k++) {
         size_t row = k / frame->width, column = k % frame->width;
@@ -142,7 +158,8 @@ static int finish(struct frame *frame)
     clock_t began = clock();
     uint32_t number = demosaic_finish(frame->width, frame->height, frame->layout, frame->rounds, frame->threshold,
                                       frame->mosaic, n, frame->red, n, frame->green, n, frame->blue, n, frame->work,
-                                      DEMOSAIC_WORK_LEN(frame->width, frame->height));
+                                      DEMOSAIC_WORK_LEN(frame->width, frame->height), frame->wide_work,
+                                      frame->wide_work_length);
     double seconds = (double)(clock() - began) / CLOCKS_PER_SEC;
     if (number != 0) {
         return refused("the frame is", number);

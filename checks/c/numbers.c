@@ -33,6 +33,7 @@ struct handed {
 static struct {
     uint16_t red[COUNT], green[COUNT], blue[COUNT];
     int32_t work[DEMOSAIC_WORK_LEN(SIDE, SIDE)];
+    int64_t wide_work[DEMOSAIC_WIDE_WORK_LEN(SIDE, SIDE)];
     uint8_t packet[DEMOSAIC_PACKET_BYTES(SIDE, SIDE)];
     size_t written, width, height;
     struct handed handed;
@@ -66,7 +67,7 @@ static uint32_t finish(const struct ask *ask)
 {
     return demosaic_finish(ask->width, ask->height, ask->layout, ask->rounds, ask->threshold, MOSAIC, COUNT,
                            memory.red, COUNT, memory.green, COUNT, memory.blue, COUNT, memory.work,
-                           DEMOSAIC_WORK_LEN(SIDE, SIDE));
+                           DEMOSAIC_WORK_LEN(SIDE, SIDE), memory.wide_work, DEMOSAIC_WIDE_WORK_LEN(SIDE, SIDE));
 }
 
 static uint32_t estimate(const struct ask *ask)
@@ -85,7 +86,7 @@ static uint32_t rounds(const struct ask *ask)
 {
     return demosaic_rounds(ask->width, ask->height, ask->layout, ask->rounds, ask->threshold, MOSAIC, COUNT,
                            memory.red, COUNT, memory.green, COUNT, memory.blue, COUNT, memory.work,
-                           DEMOSAIC_WORK_LEN(SIDE, SIDE));
+                           DEMOSAIC_WORK_LEN(SIDE, SIDE), memory.wide_work, DEMOSAIC_WIDE_WORK_LEN(SIDE, SIDE));
 }
 
 static uint32_t (*const CALLS[])(const struct ask *) = {turn,   turned_shape, then_another, packet_write,

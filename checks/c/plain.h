@@ -35,12 +35,12 @@ uint32_t PLAIN(update)(size_t width, size_t height, uint32_t layout, const uint1
 uint32_t PLAIN(rounds)(size_t width, size_t height, uint32_t layout, uint32_t rounds, uint32_t threshold,
                        const uint16_t *mosaic, size_t mosaic_length, uint16_t *red, size_t red_length,
                        const uint16_t *green, size_t green_length, uint16_t *blue, size_t blue_length,
-                       int32_t *work, size_t work_length);
+                       int32_t *work, size_t work_length, int64_t *wide_work, size_t wide_work_length);
 
 uint32_t PLAIN(finish)(size_t width, size_t height, uint32_t layout, uint32_t rounds, uint32_t threshold,
                        const uint16_t *mosaic, size_t mosaic_length, uint16_t *red, size_t red_length,
                        uint16_t *green, size_t green_length, uint16_t *blue, size_t blue_length,
-                       int32_t *work, size_t work_length);
+                       int32_t *work, size_t work_length, int64_t *wide_work, size_t wide_work_length);
 
 /* The samples that a plane is projected on. Their columns stand 1 or 2 apart. */
 struct guide {
@@ -51,9 +51,9 @@ struct guide {
 /* Holds the plane's details within the guide's, plus or minus the limit, joins and brings back. */
 void PLAIN(project)(size_t width, size_t height, int32_t *plane, struct guide guide, int32_t limit);
 
-/* The same at two levels of the bank, on a guide row by row, clipped to these ends. */
+/* The same at two levels of the bank, on a guide row by row. */
 void PLAIN(project_two)(size_t width, size_t height, int32_t *plane, const uint16_t *guide, int32_t limit,
-                        int32_t second_limit, int32_t least, int32_t most);
+                        int32_t second_limit);
 
 /* The place that index i means in a line of n. It lies at most 2 places outside. */
 static inline size_t reflected(size_t n, ptrdiff_t i)
@@ -87,7 +87,24 @@ static inline uint32_t shape_refusal(size_t width, size_t height, uint32_t layou
     if (refusal != 0) {
         return refusal;
     }
-    return layout > 3 ? 3 : 0;
+    return layout > 7 ? 3 : 0;
+}
+
+/* A layout of 4 and more is that less 4, with two levels. */
+static inline int has_two_levels(uint32_t layout)
+{
+    return layout >= 4;
+}
+
+/* The parities of red's rows and of its columns. */
+static inline size_t red_row(uint32_t layout)
+{
+    return layout % 4 / 2;
+}
+
+static inline size_t red_column(uint32_t layout)
+{
+    return layout % 2;
 }
 
 /* For questions 9 and 10: samples are at most 4,095 each if together they have no bit above the lowest 12. */
@@ -100,11 +117,11 @@ static inline int in_range(size_t n, const uint16_t *samples)
     return bits <= CEILING;
 }
 
-/* Questions 1 to 9 of the rounds and of finishing. */
+/* Questions 1 to 9 of the rounds and of finishing, 18 among them. */
 static inline uint32_t lent_refusal(size_t width, size_t height, uint32_t layout, uint32_t rounds,
                                     uint32_t threshold, const uint16_t *mosaic, size_t mosaic_length,
                                     size_t red_length, size_t green_length, size_t blue_length,
-                                    size_t work_length)
+                                    size_t work_length, size_t wide_work_length)
 {
     uint32_t refusal = shape_refusal(width, height, layout);
     if (refusal != 0) {
@@ -125,6 +142,9 @@ static inline uint32_t lent_refusal(size_t width, size_t height, uint32_t layout
     }
     if (work_length < 8 * n) {
         return 8;
+    }
+    if (has_two_levels(layout) && wide_work_length < 8 * n) {
+        return 18;
     }
     return in_range(n, mosaic) ? 0 : 9;
 }

@@ -170,7 +170,7 @@ uint32_t PLAIN(estimate)(size_t width, size_t height, uint32_t layout, const uin
     if (!in_range(n, mosaic)) {
         return 9;
     }
-    struct frame f = {width, height, layout / 2, layout % 2, mosaic, red, green, blue};
+    struct frame f = {width, height, red_row(layout), red_column(layout), mosaic, red, green, blue};
     for (size_t r = 0; r < height; r++) {
         estimate_row(&f, r);
     }

@@ -1,8 +1,9 @@
 /*
  * The rounds call in plain C.
  *
- * A colour's plane stands in the work buffer through all its rounds. A round projects it on green, and then
- * puts the observed samples in.
+ * A colour's plane stands in the work buffer through all its rounds. A round projects it on green, at one level
+ * of the bank or at two, and then puts the observed samples in. The projection at two levels needs no wide work
+ * buffer: what is lent is zeroed.
  */
 
 #include "plain.h"
@@ -12,7 +13,8 @@
 /* One colour on its way through the rounds. Its places have these parities of row and of column. */
 struct colour {
     size_t width, height, row, column;
-    int32_t limit;
+    int two_levels;
+    int32_t threshold;
     const uint16_t *mosaic, *green;
     int32_t *plane;
 };
@@ -43,14 +45,23 @@ static void narrow(size_t n, const int32_t *restrict plane, uint16_t *restrict s
     }
 }
 
+static void project(const struct colour *c)
+{
+    struct guide green = {c->green, c->width, 1};
+    if (c->two_levels) {
+        PLAIN(project_two)(c->width, c->height, c->plane, c->green, 16 * c->threshold, 256 * c->threshold);
+    } else {
+        PLAIN(project)(c->width, c->height, c->plane, green, 16 * c->threshold);
+    }
+}
+
 /* All rounds of a colour. */
 static void run(const struct colour *c, uint32_t rounds, uint16_t *samples)
 {
     size_t n = c->width * c->height;
-    struct guide green = {c->green, c->width, 1};
     widen(n, samples, c->plane);
     for (uint32_t t = 0; t < rounds; t++) {
-        PLAIN(project)(c->width, c->height, c->plane, green, c->limit);
+        project(c);
         put_observed(c);
     }
     narrow(n, c->plane, samples);
@@ -59,10 +70,10 @@ static void run(const struct colour *c, uint32_t rounds, uint16_t *samples)
 uint32_t PLAIN(rounds)(size_t width, size_t height, uint32_t layout, uint32_t rounds, uint32_t threshold,
                        const uint16_t *mosaic, size_t mosaic_length, uint16_t *red, size_t red_length,
                        const uint16_t *green, size_t green_length, uint16_t *blue, size_t blue_length,
-                       int32_t *work, size_t work_length)
+                       int32_t *work, size_t work_length, int64_t *wide_work, size_t wide_work_length)
 {
     uint32_t refusal = lent_refusal(width, height, layout, rounds, threshold, mosaic, mosaic_length,
-                                    red_length, green_length, blue_length, work_length);
+                                    red_length, green_length, blue_length, work_length, wide_work_length);
     if (refusal != 0) {
         return refusal;
     }
@@ -70,12 +81,16 @@ uint32_t PLAIN(rounds)(size_t width, size_t height, uint32_t layout, uint32_t ro
     if (!in_range(n, red) || !in_range(n, green) || !in_range(n, blue)) {
         return 10;
     }
-    struct colour c = {.width = width, .height = height, .row = layout / 2, .column = layout % 2,
-                       .limit = 16 * (int32_t)threshold, .mosaic = mosaic, .green = green, .plane = work};
+    struct colour c = {.width = width, .height = height, .row = red_row(layout), .column = red_column(layout),
+                       .two_levels = has_two_levels(layout), .threshold = (int32_t)threshold, .mosaic = mosaic,
+                       .green = green, .plane = work};
     run(&c, rounds, red);
     c.row = 1 - c.row;
     c.column = 1 - c.column;
     run(&c, rounds, blue);
     memset(work, 0, 8 * n * sizeof *work);
+    if (has_two_levels(layout)) {
+        memset(wide_work, 0, 8 * n * sizeof *wide_work);
+    }
     return 0;
 }

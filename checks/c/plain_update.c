@@ -67,7 +67,7 @@ uint32_t PLAIN(update)(size_t width, size_t height, uint32_t layout, const uint1
     if (!in_range(n, green)) {
         return 10;
     }
-    size_t row = layout / 2, column = layout % 2;
+    size_t row = red_row(layout), column = red_column(layout);
     update_places(width, places_of(width, height, 1 - row, 1 - column), mosaic, green, work);
     update_places(width, places_of(width, height, row, column), mosaic, green, work);
     memset(work, 0, 8 * n * sizeof *work);

@@ -1,6 +1,7 @@
 //! Document 01, "Filter bank". The taps stand next to each other there; the second level of Req 01 has them further apart.
 
 use crate::border::reflect;
+use std::array;
 
 /// The filters' taps in scaled whole numbers, each filter centred.
 const LOW_SPLIT: [i64; 3] = [1, 2, 1];
@@ -24,34 +25,40 @@ impl Plane {
         Plane { width, height, values: values.iter().map(|&value| value.into()).collect() }
     }
 
-    /// What row i, column j holds, reflected where it lies outside.
-    pub fn at(&self, i: i64, j: i64) -> i64 {
-        self.values[reflect(self.height, i) * self.width + reflect(self.width, j)]
-    }
-
-    /// A plane as large as this one, whose row i, column j holds `held(i, j)`.
-    pub fn filled(&self, held: impl Fn(i64, i64) -> i64) -> Plane {
+    /// The taps run along each row, so many places apart.
+    fn along_rows<const N: usize>(&self, spacing: i64, taps: &[i64; N]) -> Plane {
+        let columns: Vec<[usize; N]> = (0..self.width).map(|j| under_taps(self.width, j, spacing)).collect();
         let mut values = Vec::with_capacity(self.values.len());
-        for i in 0..self.height as i64 {
-            for j in 0..self.width as i64 {
-                values.push(held(i, j));
-            }
+        for row in self.values.chunks(self.width) {
+            values.extend(columns.iter().map(|columns| weighted(taps, |k| row[columns[k]])));
         }
         Plane { values, ..*self }
     }
 
-    /// The taps run along each row, so many places apart.
-    fn along_rows(&self, spacing: i64, taps: &[i64]) -> Plane {
-        self.filled(|i, j| weighted(taps, |k| self.at(i, j + spacing * k)))
+    /// The taps run along each column, so many places apart.
+    fn along_columns<const N: usize>(&self, spacing: i64, taps: &[i64; N]) -> Plane {
+        let mut values = Vec::with_capacity(self.values.len());
+        for i in 0..self.height {
+            let rows: [&[i64]; N] =
+                under_taps(self.height, i, spacing).map(|row| &self.values[row * self.width..][..self.width]);
+            values.extend((0..self.width).map(|j| weighted(taps, |k| rows[k][j])));
+        }
+        Plane { values, ..*self }
     }
 
-    /// The taps run along each column, so many places apart.
-    fn along_columns(&self, spacing: i64, taps: &[i64]) -> Plane {
-        self.filled(|i, j| weighted(taps, |k| self.at(i + spacing * k, j)))
+    /// What `of` makes of this plane and another, place by place.
+    pub fn with(&self, other: &Plane, of: impl Fn(i64, i64) -> i64) -> Plane {
+        let values = self.values.iter().zip(&other.values).map(|(&own, &other)| of(own, other)).collect();
+        Plane { values, ..*self }
     }
 
     fn plus(&self, other: &Plane) -> Plane {
-        self.filled(|i, j| self.at(i, j) + other.at(i, j))
+        self.with(other, |own, other| own + other)
+    }
+
+    /// Taken so many times.
+    pub fn times(&self, times: i64) -> Plane {
+        Plane { values: self.values.iter().map(|value| times * value).collect(), ..*self }
     }
 
     /// The four bands, with taps so many places apart.
@@ -83,10 +90,15 @@ impl Plane {
     }
 }
 
-/// The sum of tap times value, where `value(0)` is the one under the middle tap.
-fn weighted(taps: &[i64], value: impl Fn(i64) -> i64) -> i64 {
-    let reach = taps.len() as i64 / 2;
-    (-reach..).zip(taps).map(|(k, tap)| tap * value(k)).sum()
+/// The places under a filter's taps, so many places apart and centred at place i of a line of n: reflected where they lie
+/// outside.
+fn under_taps<const N: usize>(n: usize, i: usize, spacing: i64) -> [usize; N] {
+    array::from_fn(|k| reflect(n, i as i64 + spacing * (k as i64 - N as i64 / 2)))
+}
+
+/// The sum of tap times value, where `value(k)` is the one under tap k.
+fn weighted<const N: usize>(taps: &[i64; N], value: impl Fn(usize) -> i64) -> i64 {
+    (0..N).map(|k| taps[k] * value(k)).sum()
 }
 
 /// Questions 1 and 2, from 1 for the bank alone.
@@ -219,10 +231,10 @@ mod tests {
         for (width, height) in (1..=9).flat_map(|width| (1..=9).map(move |height| (width, height))) {
             let values: Vec<i32> = (0..width * height).map(|_| chance.within(131_070)).collect();
             let plane = Plane::given(width, height, &values);
-            let due = plane.filled(|i, j| 1024 * plane.at(i, j));
+            let due = plane.times(1024).values;
             for spacing in 1..=4 {
                 let sums = Plane::join(spacing, plane.split(spacing));
-                assert_eq!(sums.values, due.values, "{width} by {height}, taps {spacing} apart");
+                assert_eq!(sums.values, due, "{width} by {height}, taps {spacing} apart");
             }
         }
     }

@@ -25,6 +25,18 @@ impl Number for i32 {
     }
 }
 
+impl Number for i64 {
+    /// In turn below and above.
+    fn pattern(k: usize) -> i64 {
+        let k = k as i64;
+        if k % 2 == 0 {
+            -8_000_000_000_000_000_001 + k
+        } else {
+            8_000_000_000_000_000_001 - k
+        }
+    }
+}
+
 impl Number for u16 {
     fn pattern(k: usize) -> u16 {
         65_535 - (k % 60_000) as u16

@@ -71,11 +71,25 @@ impl Chance {
         numbers
     }
 
+    /// Any numbers of 64 bits: what a wide work buffer may have held before.
+    pub fn any_wide_numbers(&mut self, count: usize) -> Vec<i64> {
+        let mut numbers = Vec::new();
+        for _ in 0..count {
+            let any = self.next() as i64;
+            numbers.push(self.one_of(&[i64::MIN, -1, i64::MAX, any, any, any]));
+        }
+        numbers
+    }
+
+    pub fn layout(&mut self) -> u32 {
+        self.between(0, 7) as u32
+    }
+
     /// Fields of a frame of this size, with one round to three; the rest by chance.
     pub fn few_rounds(&mut self, width: usize, height: usize) -> Fields {
         let any = self.between(0, 4095) as u32;
         let threshold = self.one_of(&[0, 1, 20, 20, 300, any, 4094, 4095]);
-        let (layout, rounds) = (self.between(0, 3) as u32, self.one_of(&[1, 1, 2, 3]));
+        let (layout, rounds) = (self.layout(), self.one_of(&[1, 1, 2, 3]));
         Fields { width, height, layout, rounds, threshold }
     }
 
@@ -85,7 +99,7 @@ impl Chance {
         Fields {
             width: self.between(2, 9) as usize,
             height: self.between(2, 9) as usize,
-            layout: self.between(0, 3) as u32,
+            layout: self.layout(),
             rounds: self.between(0, 64) as u32,
             threshold: self.one_of(&[0, 4095, within, within]),
         }

@@ -99,7 +99,7 @@ mod tests {
             for (row, value) in [(0, 80), (1, 50), (3, 50), (4, 80)] {
                 samples[row * 5 + 2] = value;
             }
-            for layout in [0, 3] {
+            for layout in [0, 3, 4, 7] {
                 let frame = Frame { width: 5, height: 5, layout, samples: samples.clone() };
                 let [_, green, _] = estimate_of(&frame);
                 assert_eq!(green[12], due, "layout {layout}");
@@ -131,7 +131,7 @@ mod tests {
     fn turned() {
         let chance = &mut Chance(0x9e37_79b9_7f4a_7c15);
         for (width, height) in [(2, 2), (3, 2), (2, 5), (5, 4), (7, 7)] {
-            for layout in 0..4 {
+            for layout in 0..8 {
                 let frame = Frame { width, height, layout, samples: chance.samples(width * height) };
                 for turn in 0..8 {
                     let turned_after = estimate_of(&frame)

@@ -93,6 +93,8 @@ macro_rules! frame_calls {
                 blue_len: usize,
                 work: *mut i32,
                 work_len: usize,
+                wide_work: *mut i64,
+                wide_work_len: usize,
             ) -> u32;
 
             fn $demosaic_finish(
@@ -111,6 +113,8 @@ macro_rules! frame_calls {
                 blue_len: usize,
                 work: *mut i32,
                 work_len: usize,
+                wide_work: *mut i64,
+                wide_work_len: usize,
             ) -> u32;
         }
 
@@ -213,6 +217,7 @@ macro_rules! frame_calls {
             green: &[u16],
             blue: &mut [u16],
             work: &mut [i32],
+            wide_work: &mut [i64],
         ) -> Result<(), u32> {
             // as in the split
             $crate::frame_calls::answer(unsafe {
@@ -232,6 +237,8 @@ macro_rules! frame_calls {
                     blue.len(),
                     work.as_mut_ptr(),
                     work.len(),
+                    wide_work.as_mut_ptr(),
+                    wide_work.len(),
                 )
             })
         }
@@ -241,6 +248,7 @@ macro_rules! frame_calls {
             mosaic: &[u16],
             planes: [&mut [u16]; 3],
             work: &mut [i32],
+            wide_work: &mut [i64],
         ) -> Result<(), u32> {
             let [red, green, blue] = planes;
             // as in the split
@@ -261,6 +269,8 @@ macro_rules! frame_calls {
                     blue.len(),
                     work.as_mut_ptr(),
                     work.len(),
+                    wide_work.as_mut_ptr(),
+                    wide_work.len(),
                 )
             })
         }

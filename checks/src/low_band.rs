@@ -1,27 +1,60 @@
-//! Band 1 split and joined alone, by another route than the bank's.
+//! Band 1 split and joined alone, by another route than the bank's: at one level, and band 1 of band 1 at two.
 
 use crate::border::reflect;
 
 /// Low split and low join together, centred.
-const TAPS: [i32; 7] = [-1, 0, 9, 16, 9, 0, -1];
+const TAPS: [i64; 7] = [-1, 0, 9, 16, 9, 0, -1];
+
+/// The taps of one level, or those of two together: the second's are spread to every second place.
+fn taps(two_levels: bool) -> Vec<i64> {
+    if !two_levels {
+        return TAPS.to_vec();
+    }
+    let mut taps = vec![0; 19];
+    for (k, second) in TAPS.iter().enumerate() {
+        for (place, first) in taps[2 * k..].iter_mut().zip(TAPS) {
+            *place += second * first;
+        }
+    }
+    taps
+}
+
+/// How many times the paper's a sum is.
+pub fn times(two_levels: bool) -> i64 {
+    if two_levels {
+        1_048_576
+    } else {
+        1024
+    }
+}
 
 /// The weights that a plane's values have in the sum at row i, column j, if band 1 alone is joined.
-pub fn weights(width: usize, height: usize, i: usize, j: usize) -> Vec<i32> {
+pub fn weights(two_levels: bool, width: usize, height: usize, i: usize, j: usize) -> Vec<i64> {
+    let taps = taps(two_levels);
+    let reach = taps.len() as i64 / 2;
     let mut weights = vec![0; width * height];
-    for (row, down) in (i as i64 - 3..).zip(TAPS) {
-        for (column, across) in (j as i64 - 3..).zip(TAPS) {
+    for (row, down) in (i as i64 - reach..).zip(&taps) {
+        for (column, across) in (j as i64 - reach..).zip(&taps) {
             weights[reflect(height, row) * width + reflect(width, column)] += down * across;
         }
     }
     weights
 }
 
-/// The sum at place k of band 1 of one plane and bands 2 to 4 of another. The four bands of the other alone join to 1,024
-/// times it; so what is left is band 1 of the difference.
-pub fn mixed_sum(width: usize, height: usize, k: usize, low: &[i32], detail: &[i32]) -> i32 {
-    let weights = weights(width, height, k / width, k % width);
-    let differences = low.iter().zip(detail).map(|(low, detail)| low - detail);
-    1024 * detail[k] + weights.iter().zip(differences).map(|(weight, value)| weight * value).sum::<i32>()
+/// The sum at place k of band 1 of one plane and the details of another. All bands of the other alone join to so many times
+/// it; so what is left is band 1 of the difference.
+pub fn mixed_sum(
+    two_levels: bool,
+    width: usize,
+    height: usize,
+    k: usize,
+    low: &[u16],
+    detail: &[u16],
+) -> i64 {
+    let weights = weights(two_levels, width, height, k / width, k % width);
+    let differences = low.iter().zip(detail).map(|(&low, &detail)| i64::from(low) - i64::from(detail));
+    let of_the_low = weights.iter().zip(differences).map(|(weight, value)| weight * value).sum::<i64>();
+    times(two_levels) * i64::from(detail[k]) + of_the_low
 }
 
 /// Every place of small square planes with each end of a sample's range: what is asserted of the largest sums there.

@@ -1,6 +1,11 @@
-//! Document 01, "Frame, layout, border".
+//! Document 01, "Frame, layout, border", and the layouts with two levels of Req 01.
 
 use crate::border::reflect;
+
+/// A layout of 4 to 7 means that layout less 4, with two levels.
+pub fn has_two_levels(layout: u32) -> bool {
+    layout >= 4
+}
 
 /// Red's parities in a layout: of its rows, and of its columns.
 pub fn red_parities(layout: u32) -> (usize, usize) {
@@ -9,12 +14,14 @@ pub fn red_parities(layout: u32) -> (usize, usize) {
         1 => (0, 1),
         2 => (1, 0),
         3 => (1, 1),
+        4..=7 => red_parities(layout - 4),
         _ => panic!("no layout {layout}"),
     }
 }
 
-pub fn layout_of(red: (usize, usize)) -> u32 {
-    (0..4).find(|&l| red_parities(l) == red).unwrap()
+/// The layout with red at these parities and as many levels as another.
+pub fn layout_of(red: (usize, usize), like: u32) -> u32 {
+    (0..8).find(|&l| red_parities(l) == red && has_two_levels(l) == has_two_levels(like)).unwrap()
 }
 
 #[derive(Clone, Copy, Debug, PartialEq)]
@@ -55,7 +62,7 @@ pub fn shape_refusal(width: usize, height: usize, layout: u32) -> Option<u32> {
         Some(1)
     } else if !(2..=2048).contains(&height) {
         Some(2)
-    } else if layout > 3 {
+    } else if layout > 7 {
         Some(3)
     } else {
         None
@@ -71,7 +78,7 @@ pub fn in_range(samples: &[u16]) -> bool {
 mod tests {
     use super::*;
 
-    /// The colours of two rows and two columns, in each layout.
+    /// The colours of two rows and two columns, in each layout: 4 more changes none.
     #[test]
     fn colours() {
         use Colour::{Blue, Green, Red};
@@ -81,7 +88,7 @@ mod tests {
             [Green, Blue, Red, Green],
             [Blue, Green, Green, Red],
         ];
-        for (layout, due) in (0..4).zip(due) {
+        for (layout, due) in (0..8).zip(due.into_iter().cycle()) {
             let mosaic = Mosaic { width: 2, height: 2, layout, samples: &[0; 4] };
             for far in [-4, -2, 0, 2] {
                 let found = [(0, 0), (0, 1), (1, 0), (1, 1)].map(|(i, j)| mosaic.colour(far + i, far + j));

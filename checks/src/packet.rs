@@ -71,7 +71,7 @@ pub fn fields_refusal(fields: &Fields) -> Option<u32> {
         Some(1)
     } else if !(2..=2048).contains(&fields.height) {
         Some(2)
-    } else if fields.layout > 3 {
+    } else if fields.layout > 7 {
         Some(3)
     } else if fields.rounds > 64 {
         Some(4)
@@ -231,7 +231,7 @@ mod tests {
 
     #[test]
     fn layouts_rounds_and_thresholds_at_their_limits() {
-        for (layout, number) in [(0, 0), (3, 0), (4, 3), (255, 3)] {
+        for (layout, number) in [(0, 0), (3, 0), (4, 0), (7, 0), (8, 3), (255, 3)] {
             assert_eq!(refusal(&sevens(Fields { layout, ..PRINTED_FIELDS })), number, "layout {layout}");
         }
         for (rounds, number) in [(0, 0), (64, 0), (65, 4), (255, 4)] {
@@ -269,7 +269,7 @@ mod tests {
     #[test]
     fn written_then_read() {
         for (width, height) in [(2, 2), (3, 2), (2, 5), (7, 4)] {
-            for layout in 0..4 {
+            for layout in 0..8 {
                 let fields = Fields { width, height, layout, rounds: 64 - layout, threshold: 4095 };
                 let samples: Vec<u16> = (0..width * height).map(|k| (k * 997 % 4096) as u16).collect();
                 let mut out = vec![255; 2 * width * height + 15];
@@ -311,15 +311,17 @@ mod tests {
     fn rounds_and_threshold_do_not_count_in_a_repeat() {
         let other = bytes(&Fields { rounds: 64, threshold: 4095, ..PRINTED_FIELDS }, &[100, 50, 50, 20]);
         assert_eq!(repeats(&PRINTED, &other), Ok(true));
-        assert_eq!(repeats(&PRINTED, &with(&PRINTED, 12, &[1])), Ok(false));
+        for layout in 1..8 {
+            assert_eq!(repeats(&PRINTED, &with(&PRINTED, 12, &[layout])), Ok(false));
+        }
         assert_eq!(repeats(&PRINTED, &with(&PRINTED, 6, &[21])), Ok(false));
         // the same samples in another shape
         let wide = bytes(&Fields { width: 3, height: 2, ..PRINTED_FIELDS }, &[1, 2, 3, 4, 5, 6]);
         let high = bytes(&Fields { width: 2, height: 3, ..PRINTED_FIELDS }, &[1, 2, 3, 4, 5, 6]);
         assert_eq!(repeats(&wide, &high), Ok(false));
         // the first store's refusal comes first
-        assert_eq!(repeats(&with(&PRINTED, 12, &[4]), &[]), Err(3));
-        assert_eq!(repeats(&[], &with(&PRINTED, 12, &[4])), Err(11));
-        assert_eq!(repeats(&PRINTED, &with(&PRINTED, 12, &[4])), Err(3));
+        assert_eq!(repeats(&with(&PRINTED, 12, &[8]), &[]), Err(3));
+        assert_eq!(repeats(&[], &with(&PRINTED, 12, &[8])), Err(11));
+        assert_eq!(repeats(&PRINTED, &with(&PRINTED, 12, &[8])), Err(3));
     }
 }

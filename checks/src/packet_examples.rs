@@ -44,7 +44,7 @@ fn refusals(out: &mut String) {
         line(out, &[n, packet::refusal(&PRINTED[20 - n as usize..])]);
     }
     for place in 0..20 {
-        line(out, &[0, 1, 2, 3, 4, 5, 16, 65, 255].map(|byte| packet::refusal(&with(place, byte))));
+        line(out, &[0, 1, 2, 3, 4, 7, 8, 16, 65, 255].map(|byte| packet::refusal(&with(place, byte))));
     }
 }
 
@@ -62,12 +62,13 @@ fn writings(out: &mut String) {
     for room in [23, 24, 26] {
         write(out, WRITTEN, &WRITTEN_SAMPLES, room);
     }
+    write(out, Fields { layout: 7, ..WRITTEN }, &WRITTEN_SAMPLES, 24);
     let refused_fields = [
         Fields { width: 1, ..WRITTEN },
         Fields { width: 2049, ..WRITTEN },
         Fields { height: 1, ..WRITTEN },
         Fields { height: 2049, ..WRITTEN },
-        Fields { layout: 4, ..WRITTEN },
+        Fields { layout: 8, ..WRITTEN },
         Fields { rounds: 65, ..WRITTEN },
         Fields { threshold: 4096, ..WRITTEN },
         // six samples are not 2 by 2
@@ -116,9 +117,10 @@ fn repetitions(out: &mut String) {
     }
     line(out, &[repeats(&after_older_bytes(), &PRINTED)]);
     line(out, &[repeats(&PRINTED, &packet::bytes(&WRITTEN, &WRITTEN_SAMPLES))]);
+    line(out, &[repeats(&PRINTED, &with(12, 4))]);
     // both refused: the first store's number
-    line(out, &[repeats(&with(8, 1), &with(12, 4))]);
-    line(out, &[repeats(&with(12, 4), &with(8, 1))]);
+    line(out, &[repeats(&with(8, 1), &with(12, 8))]);
+    line(out, &[repeats(&with(12, 8), &with(8, 1))]);
     line(out, &[repeats(&PRINTED[9..], &with(8, 1))]);
 }
 

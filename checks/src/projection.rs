@@ -1,68 +1,62 @@
-//! Document 01, "Rounds", without the observed samples, and Req 01: a plane projected on its guide, at one level of the
-//! filter bank and at two.
+//! Document 01, "Rounds", without the observed samples, and Req 01: a plane projected on green, at one level of the filter
+//! bank and at two.
 
 use crate::bank::{whole_divided, Plane};
 
-/// What a plane of this size is projected with.
-#[derive(Clone, Copy, Debug)]
-pub struct Projection {
-    pub width: usize,
-    pub height: usize,
-    /// How far a detail may lie from the guide's: 16·T.
-    pub limit: i32,
-    /// The same for the second level's details, 256·T. Without it there is one level.
-    pub second_limit: Option<i32>,
-    /// What the plane is clipped to.
-    pub least: i32,
-    pub most: i32,
+/// The bands of green, which each round of either colour is held to.
+pub struct Green {
+    width: usize,
+    height: usize,
+    first: [Plane; 4],
+    /// Those of its band 1, split again with the taps spread to every second place. Without them there is one level.
+    second: Option<[Plane; 4]>,
 }
 
-/// A band of details, each held within the guide's value ± limit.
-fn held(own: &Plane, guide: &Plane, limit: i32) -> Plane {
-    let limit = i64::from(limit);
-    own.filled(|i, j| own.at(i, j).clamp(guide.at(i, j) - limit, guide.at(i, j) + limit))
+/// A detail, held within green's ± limit.
+fn held(value: i64, green: i64, limit: i64) -> i64 {
+    value.clamp(green - limit, green + limit)
 }
 
-/// The joined sum at one level: bands 2, 3 and 4 are held.
-fn joined(spacing: i64, own: &Plane, guide: &Plane, limit: i32) -> Plane {
-    let [own1, own2, own3, own4] = own.split(spacing);
-    let [_, guide2, guide3, guide4] = guide.split(spacing);
-    let details = [held(&own2, &guide2, limit), held(&own3, &guide3, limit), held(&own4, &guide4, limit)];
-    let [held2, held3, held4] = details;
-    Plane::join(spacing, [own1, held2, held3, held4])
+/// Bands of which the details, bands 2, 3 and 4, are held within green's ± limit.
+fn details_held(bands: [Plane; 4], green: &[Plane; 4], limit: i64) -> [Plane; 4] {
+    let [band1, band2, band3, band4] = bands;
+    let held = |band: Plane, green: &Plane| band.with(green, |value, green| held(value, green, limit));
+    [band1, held(band2, &green[1]), held(band3, &green[2]), held(band4, &green[3])]
 }
 
-/// The joined sum at two levels: band 1 is split again, its details held, and joined, with taps at every second place. The
-/// first level's held details are taken 1,024 times.
-fn joined_at_two_levels(own: &Plane, guide: &Plane, limit: i32, second_limit: i32) -> Plane {
-    let [own1, own2, own3, own4] = own.split(1);
-    let [guide1, guide2, guide3, guide4] = guide.split(1);
-    let joined1 = joined(2, &own1, &guide1, second_limit);
-    let taken = |own: &Plane, guide: &Plane| {
-        let held = held(own, guide, limit);
-        held.filled(|i, j| 1024 * held.at(i, j))
-    };
-    let [taken2, taken3, taken4] = [taken(&own2, &guide2), taken(&own3, &guide3), taken(&own4, &guide4)];
-    Plane::join(1, [joined1, taken2, taken3, taken4])
+/// The joined sums at one level, 1,024 times the paper's.
+fn one_level_sums(own: &Plane, green: &[Plane; 4], limit: i64) -> Plane {
+    Plane::join(1, details_held(own.split(1), green, limit))
 }
 
-impl Projection {
-    /// The joined sums, and how many times the paper's they are.
-    fn sums(&self, own: &[i32], guide: &[u16]) -> (Plane, i64) {
-        let own = Plane::given(self.width, self.height, own);
-        let guide = Plane::given(self.width, self.height, guide);
-        match self.second_limit {
-            None => (joined(1, &own, &guide, self.limit), 1024),
-            Some(second_limit) => (joined_at_two_levels(&own, &guide, self.limit, second_limit), 1_048_576),
-        }
+/// The joined sums at two levels, 1,048,576 times the paper's: band 1 is split again, held and joined, with the taps spread
+/// to every second place; the first level's details are taken 1,024 times.
+fn two_level_sums(own: &Plane, green: [&[Plane; 4]; 2], limits: [i64; 2]) -> Plane {
+    let [band1, band2, band3, band4] = details_held(own.split(1), green[0], limits[0]);
+    let joined1 = Plane::join(2, details_held(band1.split(2), green[1], limits[1]));
+    Plane::join(1, [joined1, band2.times(1024), band3.times(1024), band4.times(1024)])
+}
+
+impl Green {
+    pub fn split(width: usize, height: usize, green: &[u16], two_levels: bool) -> Green {
+        let first = Plane::given(width, height, green).split(1);
+        let second = two_levels.then(|| first[0].split(2));
+        Green { width, height, first, second }
     }
 
-    /// The plane, projected on its guide.
-    pub fn of(&self, own: &[i32], guide: &[u16]) -> Vec<i32> {
-        assert_eq!([own.len(), guide.len()], [self.width * self.height; 2]);
-        let (sums, times) = self.sums(own, guide);
-        let ends = (i64::from(self.least), i64::from(self.most));
-        sums.values.iter().map(|&sum| whole_divided(sum, times).clamp(ends.0, ends.1) as i32).collect()
+    /// A plane of samples, projected on green with this threshold: details are held within ± 16·T, those of the second level
+    /// within ± 256·T; only the whole is brought back.
+    pub fn projected(&self, plane: &[u16], threshold: u32) -> Vec<u16> {
+        let own = Plane::given(self.width, self.height, plane);
+        let threshold = i64::from(threshold);
+        let (sums, times) = match &self.second {
+            None => (one_level_sums(&own, &self.first, 16 * threshold), 1024),
+            Some(second) => {
+                let limits = [16 * threshold, 256 * threshold];
+                (two_level_sums(&own, [&self.first, second], limits), 1_048_576)
+            }
+        };
+        sums.values.iter().map(|&sum| whole_divided(sum, times).clamp(0, 4095) as u16).collect()
     }
 }
 
@@ -72,34 +66,35 @@ mod tests {
     use crate::chance::Chance;
 
     /// More than any two details are apart.
-    const NOTHING_HELD: i32 = 1 << 30;
+    const NOTHING_HELD: i64 = 1 << 40;
 
-    /// Clipped to what every plane keeps within.
-    fn wide(width: usize, height: usize, limit: i32, second_limit: Option<i32>) -> Projection {
-        Projection { width, height, limit, second_limit, least: -65_535, most: 131_070 }
+    /// The sums at one level and at two.
+    fn sums(own: &Plane, green: &Plane, limits: [i64; 2]) -> [Vec<i64>; 2] {
+        let first = green.split(1);
+        let second = first[0].split(2);
+        [one_level_sums(own, &first, limits[0]), two_level_sums(own, [&first, &second], limits)]
+            .map(|sums| sums.values)
     }
 
-    fn random(chance: &mut Chance, count: usize) -> (Vec<i32>, Vec<u16>) {
-        let own = (0..count).map(|_| chance.between(0, 196_605) as i32 - 65_535).collect();
-        (own, chance.any_samples(count))
+    fn random(chance: &mut Chance, width: usize, height: usize) -> Plane {
+        let values: Vec<i32> = (0..width * height).map(|_| chance.within(131_070)).collect();
+        Plane::given(width, height, &values)
     }
 
-    fn small_sizes() -> impl Iterator<Item = (usize, usize)> {
-        (1..=9).flat_map(|width| (1..=9).map(move |height| (width, height)))
+    #[test]
+    fn cases_e_f_and_g() {
+        assert_eq!([17, 16, -17].map(|value| held(value, 0, 16)), [16, 16, -16]);
+        assert_eq!([17, 16, -17, 100].map(|value| held(value, 100, 16)), [84, 84, 84, 100]);
+        assert_eq!([17, 0, -17].map(|value| held(value, 5, 0)), [5, 5, 5]);
     }
 
     #[test]
     fn with_nothing_held_the_plane_comes_back() {
         let chance = &mut Chance(0x9e37_79b9_7f4a_7c15);
-        for (width, height) in small_sizes() {
-            let (own, guide) = random(chance, width * height);
-            for second_limit in [None, Some(NOTHING_HELD)] {
-                let projection = wide(width, height, NOTHING_HELD, second_limit);
-                let (sums, times) = projection.sums(&own, &guide);
-                let due: Vec<i64> = own.iter().map(|&value| times * i64::from(value)).collect();
-                assert_eq!(sums.values, due, "{projection:?}");
-                assert_eq!(projection.of(&own, &guide), own, "{projection:?}");
-            }
+        for (width, height) in (1..=9).flat_map(|width| (1..=9).map(move |height| (width, height))) {
+            let [own, green] = [(); 2].map(|_| random(chance, width, height));
+            let due = [1024, 1_048_576].map(|times| own.times(times).values);
+            assert_eq!(sums(&own, &green, [NOTHING_HELD; 2]), due, "{width} by {height}");
         }
     }
 
@@ -109,18 +104,18 @@ mod tests {
     fn two_places_have_no_second_detail() {
         let chance = &mut Chance(0x2545_f491_4f6c_dd1d);
         for (width, height) in [(1, 1), (1, 2), (2, 1), (2, 2)] {
-            for limit in [0, 16, 320, 65_520, 1_048_560] {
-                let (own, guide) = random(chance, width * height);
-                let due = wide(width, height, limit, None).of(&own, &guide);
+            for limit in [0, 16, 320, 65_520] {
+                let [own, green] = [(); 2].map(|_| random(chance, width, height));
                 for second_limit in [0, 256, NOTHING_HELD] {
-                    let projection = wide(width, height, limit, Some(second_limit));
-                    assert_eq!(projection.of(&own, &guide), due, "{projection:?}");
+                    let [one, two] = sums(&own, &green, [limit, second_limit]);
+                    let due: Vec<i64> = one.iter().map(|sum| 1024 * sum).collect();
+                    assert_eq!(two, due, "{width} by {height}, {limit}, {second_limit}");
                 }
             }
         }
     }
 
-    /// A row 8 0 0 on a guide of zeros. Band 1 is 64 32 0, and band 2 is −64 32 0. Band 1 split again: 512 512 512 and
+    /// A row 8 0 0 on a green of zeros. Band 1 is 64 32 0, and band 2 is −64 32 0. Band 1 split again: 512 512 512 and
     /// −512 0 512.
     ///
     /// With T = 1 these are held to −256 0 256, and join to 49,152 32,768 16,384. Band 2 is held to −16 16 0, 1,024 times
@@ -130,30 +125,37 @@ mod tests {
     #[test]
     fn three_places_by_hand() {
         let cases = [
-            (0, 0, [2_097_152, 2_097_152, 2_097_152], [2, 2, 2]),
-            (16, 256, [4_456_448, 1_310_720, 1_310_720], [4, 1, 1]),
-            (16, NOTHING_HELD, [5_505_024, 1_310_720, 262_144], [5, 1, 0]),
-            (NOTHING_HELD, 256, [7_340_032, 0, 1_048_576], [7, 0, 1]),
-            (64, 512, [8_388_608, 0, 0], [8, 0, 0]),
+            ([0, 0], [2_097_152, 2_097_152, 2_097_152]),
+            ([16, 256], [4_456_448, 1_310_720, 1_310_720]),
+            ([16, NOTHING_HELD], [5_505_024, 1_310_720, 262_144]),
+            ([NOTHING_HELD, 256], [7_340_032, 0, 1_048_576]),
+            ([64, 512], [8_388_608, 0, 0]),
         ];
-        for (limit, second_limit, due_sums, due) in cases {
+        for (limits, due) in cases {
             for (width, height) in [(3, 1), (1, 3)] {
-                let projection = wide(width, height, limit, Some(second_limit));
-                let (sums, _) = projection.sums(&[8, 0, 0], &[0; 3]);
-                assert_eq!(sums.values, due_sums, "{projection:?}");
-                assert_eq!(projection.of(&[8, 0, 0], &[0; 3]), due, "{projection:?}");
+                let [own, green] = [[8, 0, 0], [0; 3]].map(|row| Plane::given(width, height, &row));
+                let [_, two] = sums(&own, &green, limits);
+                assert_eq!(two, due, "{limits:?}");
             }
         }
     }
 
+    /// The same on a green of 100, and brought back: the details are the same. A half goes up, below zero too.
     #[test]
-    fn clipped() {
-        let clipped = |least, most| {
-            let projection = Projection { least, most, ..wide(3, 1, NOTHING_HELD, Some(NOTHING_HELD)) };
-            projection.of(&[-9, 40, 131_070], &[0; 3])
-        };
-        assert_eq!(clipped(0, 4095), [0, 40, 4095]);
-        assert_eq!(clipped(-5, 39), [-5, 39, 39]);
-        assert_eq!(clipped(i32::MIN, i32::MAX), [-9, 40, 131_070]);
+    fn three_places_brought_back() {
+        let cases = [
+            ([108, 100, 100], 0, [102, 102, 102]),
+            ([108, 100, 100], 1, [104, 101, 101]),
+            ([108, 100, 100], 4, [108, 100, 100]),
+            ([102, 100, 100], 0, [101, 101, 101]),
+            ([94, 100, 100], 0, [99, 99, 99]),
+            ([93, 100, 100], 0, [98, 98, 98]),
+        ];
+        for (own, threshold, due) in cases {
+            for (width, height) in [(3, 1), (1, 3)] {
+                let green = Green::split(width, height, &[100; 3], true);
+                assert_eq!(green.projected(&own, threshold), due, "{own:?}, {threshold}");
+            }
+        }
     }
 }

@@ -16,15 +16,16 @@ pub fn no_side(chance: &mut Chance) -> usize {
 }
 
 /// The questions about numbers that have 32 bits in C, and the largest number that each allows.
-pub const LARGEST_ALLOWED: [(u32, u32); 4] = [(16, 7), (3, 3), (4, 64), (5, 4095)];
+pub const LARGEST_ALLOWED: [(u32, u32); 4] = [(16, 7), (3, 7), (4, 64), (5, 4095)];
 
 /// Numbers above `most`. Nearly all of them would be in range in fewer bits or with a sign: a bit or several above those of
-/// `most`, and below them a number in range.
+/// `most`, and below them a number in range; of the layouts, of either level.
 pub fn above(most: u32) -> Vec<u32> {
     let one_bit = (0..32).map(|bit| 1 << bit);
     let several = [768, 0xff00, 0x3_0000, 0xff_0000, 0xffff_0000, 0xffff_ff00];
     let upper = one_bit.chain(several).filter(|&upper| upper > most);
-    upper.flat_map(|upper| [0, 1, most / 2, most].map(|lower| upper | lower)).chain([u32::MAX]).collect()
+    let lower = [0, 1, most / 2, most / 2 + 1, most];
+    upper.flat_map(|upper| lower.map(|lower| upper | lower)).chain([u32::MAX]).collect()
 }
 
 /// A number that this question refuses: one that a packet could hold, any of 32 bits, or one that fewer would hide.
@@ -48,12 +49,12 @@ pub fn wrong_lengths(width: usize, height: usize) -> Vec<usize> {
 pub const SHAPES: [(usize, usize); 9] =
     [(2, 2), (3, 2), (2, 3), (7, 5), (16, 16), (17, 3), (64, 2), (33, 2), (2, 35)];
 
-/// Work buffers that are too short for so many samples.
+/// Work buffers, the wide ones too, that are too short for so many samples.
 pub fn short_work(count: usize) -> [usize; 9] {
     [0, 1, count - 1, count, count + 1, 2 * count, 4 * count, 7 * count, 8 * count - 1]
 }
 
-/// Work buffers that suffice for so many samples.
+/// Work buffers, the wide ones too, that suffice for so many samples.
 pub fn sufficient_work(count: usize) -> [usize; 8] {
     [0, 1, 2, 3, 8, count, 8 * count, 1000].map(|more| 8 * count + more)
 }

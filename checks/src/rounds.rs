@@ -1,24 +1,8 @@
-//! Document 01, "Rounds".
+//! Document 01, "Rounds", and Req 01, the rounds with two levels.
 
-use crate::bank;
-use crate::mosaic::{in_range, Colour, Mosaic};
+use crate::mosaic::{has_two_levels, in_range, Colour, Mosaic};
 use crate::packet::{fields_refusal, Fields};
-
-/// A plane's samples as the bank takes them.
-fn signed(plane: &[u16]) -> Vec<i32> {
-    plane.iter().map(|&sample| sample.into()).collect()
-}
-
-/// The four bands of a plane as large as the mosaic.
-fn bands_of(mosaic: &Mosaic, plane: &[u16]) -> [Vec<i32>; 4] {
-    bank::bands_of(mosaic.width, mosaic.height, &signed(plane))
-}
-
-/// A value of band 2, 3 or 4, held within green's value ± 16·T.
-fn held(value: i32, green: i32, threshold: u32) -> i32 {
-    let limit = 16 * threshold as i32;
-    value.clamp(green - limit, green + limit)
-}
+use crate::projection::Green;
 
 /// Puts the observed samples of a colour into its plane.
 fn put_observed(mosaic: &Mosaic, colour: Colour, plane: &mut [u16]) {
@@ -29,23 +13,51 @@ fn put_observed(mosaic: &Mosaic, colour: Colour, plane: &mut [u16]) {
     }
 }
 
-/// One round for red or for blue, given the bands of green.
-fn round(mosaic: &Mosaic, colour: Colour, green: &[Vec<i32>; 4], threshold: u32, plane: &mut [u16]) {
-    let mut bands = bands_of(mosaic, plane);
-    for (band, green) in bands.iter_mut().zip(green).skip(1) {
-        for (value, &green) in band.iter_mut().zip(green) {
-            *value = held(*value, green, threshold);
-        }
-    }
-    let sums = bank::sums_of(mosaic.width, mosaic.height, bands.each_ref().map(|band| &band[..]));
-    for (sample, &sum) in plane.iter_mut().zip(&sums) {
-        *sample = bank::bring_back(sum);
-    }
+/// One round for red or for blue.
+fn round(mosaic: &Mosaic, colour: Colour, green: &Green, threshold: u32, plane: &mut [u16]) {
+    plane.copy_from_slice(&green.projected(plane, threshold));
     put_observed(mosaic, colour, plane);
 }
 
-/// The rounds: questions 1, 2, 3, 4, 5, 6 of the mosaic, 7 of the three planes, 8, 9 and 10; then it rewrites red and
-/// blue, and zeroes the first 8·w·h of the work buffer.
+/// How many numbers the wide work buffer has at least: 8·w·h with two levels; with one it is neither asked for nor touched.
+pub fn wide_needed(fields: &Fields) -> usize {
+    if has_two_levels(fields.layout) {
+        8 * fields.width * fields.height
+    } else {
+        0
+    }
+}
+
+/// Questions 1, 2, 3, 4, 5, 6 of the mosaic, 7 of the three planes' lengths, 8 and, with two levels, 18 of the work buffers'
+/// lengths, and 9: the rounds ask 10 besides, finishing no more.
+pub fn lent_refusal(
+    fields: &Fields,
+    mosaic: &[u16],
+    planes: [usize; 3],
+    work: usize,
+    wide_work: usize,
+) -> Option<u32> {
+    if let Some(number) = fields_refusal(fields) {
+        return Some(number);
+    }
+    let count = fields.width * fields.height;
+    if mosaic.len() != count {
+        Some(6)
+    } else if planes != [count; 3] {
+        Some(7)
+    } else if work < 8 * count {
+        Some(8)
+    } else if wide_work < wide_needed(fields) {
+        Some(18)
+    } else if !in_range(mosaic) {
+        Some(9)
+    } else {
+        None
+    }
+}
+
+/// The rounds: their questions; then it rewrites red and blue, and zeroes the first 8·w·h of the work buffer, and with two
+/// levels of the wide one.
 pub fn rounds(
     fields: &Fields,
     mosaic: &[u16],
@@ -53,42 +65,33 @@ pub fn rounds(
     green: &[u16],
     blue: &mut [u16],
     work: &mut [i32],
+    wide_work: &mut [i64],
 ) -> Result<(), u32> {
-    if let Some(number) = fields_refusal(fields) {
+    let lengths = [red.len(), green.len(), blue.len()];
+    if let Some(number) = lent_refusal(fields, mosaic, lengths, work.len(), wide_work.len()) {
         return Err(number);
-    }
-    let Fields { width, height, layout, rounds, threshold } = *fields;
-    let count = width * height;
-    if mosaic.len() != count {
-        return Err(6);
-    }
-    if [red.len(), green.len(), blue.len()] != [count; 3] {
-        return Err(7);
-    }
-    if work.len() < 8 * count {
-        return Err(8);
-    }
-    if !in_range(mosaic) {
-        return Err(9);
     }
     if ![&*red, green, &*blue].into_iter().all(in_range) {
         return Err(10);
     }
+    let Fields { width, height, layout, rounds, threshold } = *fields;
     let mosaic = Mosaic { width, height, layout, samples: mosaic };
-    let green = bands_of(&mosaic, green);
+    let green = Green::split(width, height, green, has_two_levels(layout));
     for _ in 0..rounds {
         round(&mosaic, Colour::Red, &green, threshold, red);
         round(&mosaic, Colour::Blue, &green, threshold, blue);
     }
-    work[..8 * count].fill(0);
+    work[..8 * width * height].fill(0);
+    wide_work[..wide_needed(fields)].fill(0);
     Ok(())
 }
 
 #[cfg(test)]
 mod tests {
     use super::*;
+    use crate::bank::whole_divided;
     use crate::chance::Chance;
-    use crate::low_band::mixed_sum;
+    use crate::low_band::{mixed_sum, times};
     use crate::mosaics::OF_TWO;
     use crate::turns::Frame;
 
@@ -98,9 +101,12 @@ mod tests {
     /// Red and blue after the rounds.
     fn rounds_of(fields: &Fields, mosaic: &[u16], planes: &Planes) -> [Vec<u16>; 2] {
         let [mut red, green, mut blue] = planes.clone();
-        let mut work = vec![7; 8 * mosaic.len() + 1];
-        rounds(fields, mosaic, &mut red, &green, &mut blue, &mut work).unwrap();
+        let (mut work, mut wide_work) = (vec![7; 8 * mosaic.len() + 1], vec![7; 8 * mosaic.len() + 1]);
+        rounds(fields, mosaic, &mut red, &green, &mut blue, &mut work, &mut wide_work).unwrap();
         assert!(work.iter().rev().eq([7].iter().chain(&vec![0; 8 * mosaic.len()])));
+        let zeroed = if fields.layout < 4 { 0 } else { 8 * mosaic.len() };
+        assert_eq!(wide_work[..zeroed], vec![0; zeroed]);
+        assert_eq!(wide_work[zeroed..], vec![7; 8 * mosaic.len() + 1 - zeroed]);
         [red, blue]
     }
 
@@ -108,15 +114,8 @@ mod tests {
         [(); 3].map(|_| chance.samples(count))
     }
 
-    #[test]
-    fn cases_e_f_and_g() {
-        assert_eq!([17, 16, -17].map(|value| held(value, 0, 1)), [16, 16, -16]);
-        assert_eq!([17, 16, -17, 100].map(|value| held(value, 100, 1)), [84, 84, 84, 100]);
-        assert_eq!([17, 0, -17].map(|value| held(value, 5, 0)), [5, 5, 5]);
-    }
-
     /// The second round by hand: red adds up to 410, blue to 35, and band 1 joins to 256 times that; green's band 4 joins
-    /// to −10,240 at the first place and the last, to 10,240 at the others.
+    /// to −10,240 at the first place and the last, to 10,240 at the others. 2 by 2 has no detail at the second level.
     #[test]
     fn case_k_and_a_second_round() {
         let planes = [vec![100; 4], vec![40, 60, 60, 40], vec![5; 4]];
@@ -126,8 +125,10 @@ mod tests {
             [[100, 113, 113, 93], [0, 19, 19, 5]],
         ];
         for (rounds, due) in (0..).zip(due) {
-            let fields = Fields { width: 2, height: 2, layout: 0, rounds, threshold: 0 };
-            assert_eq!(rounds_of(&fields, &[100, 60, 60, 5], &planes), due, "{rounds} rounds");
+            for layout in [0, 4] {
+                let fields = Fields { width: 2, height: 2, layout, rounds, threshold: 0 };
+                assert_eq!(rounds_of(&fields, &[100, 60, 60, 5], &planes), due, "{rounds} rounds");
+            }
         }
     }
 
@@ -148,13 +149,13 @@ mod tests {
             (4095, 0, 2048, [4095, 0]),
         ];
         for (a, b, threshold, [held_a, held_b]) in cases {
-            for (layout, of_two) in (0..4).flat_map(|layout| OF_TWO.map(|of_two| (layout, of_two))) {
+            for (layout, of_two) in (0..8).flat_map(|layout| OF_TWO.map(|of_two| (layout, of_two))) {
                 let fields = Fields { width: 2, height: 2, layout, rounds: 1, threshold };
                 let planes = [of_two(a, b).to_vec(), vec![50; 4], of_two(b, a).to_vec()];
                 let mut due = [of_two(held_a, held_b), of_two(held_b, held_a)];
-                // red sits at the place of the layout's number, blue at the opposite one
-                due[0][layout as usize] = 7;
-                due[1][3 - layout as usize] = 7;
+                // red sits at the place of the layout's number, less 4 with two levels, blue at the opposite one
+                due[0][layout as usize % 4] = 7;
+                due[1][3 - layout as usize % 4] = 7;
                 assert_eq!(rounds_of(&fields, &[7; 4], &planes), due, "{a} and {b}, {fields:?}");
             }
         }
@@ -171,8 +172,8 @@ mod tests {
         }
     }
 
-    /// Two planes' values of a band are 65,520 apart at most, which is 16 times 4,095: nothing is held, so that the plane
-    /// comes back and takes the observed samples.
+    /// Two planes' values of a band are 65,520 apart at most, which is 16 times 4,095, those of a band of the second level
+    /// 256 times 4,095: nothing is held, so that the plane comes back and takes the observed samples.
     #[test]
     fn the_largest_threshold_holds_nothing() {
         let chance = &mut Chance(0xfedc_ba98_7654_3210);
@@ -188,8 +189,8 @@ mod tests {
         }
     }
 
-    /// Red or blue after rounds with T = 0. The details are green's: what is joined is band 1 of the colour and bands 2
-    /// to 4 of green.
+    /// Red or blue after rounds with T = 0. The details are green's: what is joined is band 1 of the colour, of its band 1
+    /// with two levels, and all else of green.
     fn by_the_low_band(
         mosaic: &Mosaic,
         colour: Colour,
@@ -197,12 +198,12 @@ mod tests {
         first: &[u16],
         green: &[u16],
     ) -> Vec<u16> {
-        let green = signed(green);
+        let two_levels = mosaic.layout >= 4;
         let mut plane = first.to_vec();
         for _ in 0..rounds {
-            let given = signed(&plane);
-            let sum = |k| mixed_sum(mosaic.width, mosaic.height, k, &given, &green);
-            plane = (0..given.len()).map(|k| bank::bring_back(sum(k))).collect();
+            let sum = |k| mixed_sum(two_levels, mosaic.width, mosaic.height, k, &plane, green);
+            let projected = |k| whole_divided(sum(k), times(two_levels)).clamp(0, 4095) as u16;
+            plane = (0..plane.len()).map(projected).collect();
             put_observed(mosaic, colour, &mut plane);
         }
         plane
@@ -212,50 +213,58 @@ mod tests {
     fn without_a_threshold_by_the_low_band() {
         let chance = &mut Chance(0x0123_4567_89ab_cdef);
         for (width, height) in (2..=9).flat_map(|width| (2..=9).map(move |height| (width, height))) {
-            let fields = Fields { threshold: 0, ..chance.few_rounds(width, height) };
-            let samples = chance.samples(width * height);
-            let planes = random_planes(chance, width * height);
-            let mosaic = Mosaic { width, height, layout: fields.layout, samples: &samples };
-            let due = [(Colour::Red, &planes[0]), (Colour::Blue, &planes[2])]
-                .map(|(colour, plane)| by_the_low_band(&mosaic, colour, fields.rounds, plane, &planes[1]));
-            assert_eq!(rounds_of(&fields, &samples, &planes), due, "{fields:?}");
+            for layout in [chance.between(0, 3) as u32, chance.between(4, 7) as u32] {
+                let fields = Fields { layout, threshold: 0, ..chance.few_rounds(width, height) };
+                let samples = chance.samples(width * height);
+                let planes = random_planes(chance, width * height);
+                let mosaic = Mosaic { width, height, layout, samples: &samples };
+                let due = [(Colour::Red, &planes[0]), (Colour::Blue, &planes[2])].map(|(colour, plane)| {
+                    by_the_low_band(&mosaic, colour, fields.rounds, plane, &planes[1])
+                });
+                assert_eq!(rounds_of(&fields, &samples, &planes), due, "{fields:?}");
+            }
         }
+    }
+
+    /// The number of a refused call with these planes and work buffers of these lengths, which are as they were.
+    fn refused(fields: &Fields, mosaic: &[u16], planes: [&[u16]; 3], work: usize, wide: usize) -> u32 {
+        let [mut red, green, mut blue] = planes.map(|plane| plane.to_vec());
+        let (mut lent, mut wide_lent) = (vec![7; work], vec![7; wide]);
+        let answer = rounds(fields, mosaic, &mut red, &green, &mut blue, &mut lent, &mut wide_lent);
+        assert_eq!([&red[..], &green, &blue], planes);
+        assert_eq!((lent, wide_lent), (vec![7; work], vec![7; wide]));
+        answer.unwrap_err()
     }
 
     /// Each question answered no, and those after it too.
     #[test]
     fn refused_in_order_and_untouched() {
-        let sound = Fields { width: 2, height: 2, layout: 3, rounds: 64, threshold: 4095 };
+        let sound = Fields { width: 2, height: 2, layout: 7, rounds: 64, threshold: 4095 };
         let of_fields = [
-            (Fields { width: 1, height: 2049, layout: 4, rounds: 65, threshold: 4096 }, 1),
-            (Fields { height: 2049, layout: 4, rounds: 65, threshold: 4096, ..sound }, 2),
-            (Fields { layout: 4, rounds: 65, threshold: 4096, ..sound }, 3),
+            (Fields { width: 1, height: 2049, layout: 8, rounds: 65, threshold: 4096 }, 1),
+            (Fields { height: 2049, layout: 8, rounds: 65, threshold: 4096, ..sound }, 2),
+            (Fields { layout: 8, rounds: 65, threshold: 4096, ..sound }, 3),
             (Fields { rounds: 65, threshold: 4096, ..sound }, 4),
             (Fields { threshold: 4096, ..sound }, 5),
         ];
-        let refused = |fields: &Fields, mosaic: &[u16], planes: [&[u16]; 3], work: usize| {
-            let [mut red, green, mut blue] = planes.map(|plane| plane.to_vec());
-            let mut lent = vec![7; work];
-            let answer = rounds(fields, mosaic, &mut red, &green, &mut blue, &mut lent);
-            assert_eq!([&red[..], &green, &blue], planes);
-            assert_eq!(lent, vec![7; work]);
-            answer.unwrap_err()
-        };
         for (fields, number) in of_fields {
-            assert_eq!(refused(&fields, &[4096; 3], [&[4096; 3]; 3], 31), number);
+            assert_eq!(refused(&fields, &[4096; 3], [&[4096; 3]; 3], 31, 31), number);
         }
-        assert_eq!(refused(&sound, &[4096; 3], [&[4096; 3]; 3], 31), 6);
+        assert_eq!(refused(&sound, &[4096; 3], [&[4096; 3]; 3], 31, 31), 6);
         for plane in 0..3 {
             let mut planes: [&[u16]; 3] = [&[4096; 4]; 3];
             planes[plane] = &[4096; 5];
-            assert_eq!(refused(&sound, &[4096; 4], planes, 31), 7);
+            assert_eq!(refused(&sound, &[4096; 4], planes, 31, 31), 7);
         }
-        assert_eq!(refused(&sound, &[4096; 4], [&[4096; 4]; 3], 31), 8);
-        assert_eq!(refused(&sound, &[0, 0, 0, 4096], [&[4096; 4]; 3], 32), 9);
+        assert_eq!(refused(&sound, &[4096; 4], [&[4096; 4]; 3], 31, 31), 8);
+        assert_eq!(refused(&sound, &[4096; 4], [&[4096; 4]; 3], 32, 31), 18);
+        assert_eq!(refused(&sound, &[0, 0, 0, 4096], [&[4096; 4]; 3], 32, 32), 9);
+        let one_level = Fields { layout: 3, ..sound };
+        assert_eq!(refused(&one_level, &[0, 0, 0, 4096], [&[4096; 4]; 3], 32, 0), 9);
         for plane in 0..3 {
             let mut planes: [&[u16]; 3] = [&[4095; 4]; 3];
             planes[plane] = &[0, 4096, 0, 0];
-            assert_eq!(refused(&sound, &[4095; 4], planes, 32), 10);
+            assert_eq!(refused(&sound, &[4095; 4], planes, 32, 32), 10);
         }
     }
 
@@ -264,7 +273,7 @@ mod tests {
     fn turned() {
         let chance = &mut Chance(0x9e37_79b9_7f4a_7c15);
         for (width, height) in [(2, 2), (3, 2), (2, 5), (5, 4), (7, 7), (9, 12)] {
-            for layout in 0..4 {
+            for layout in 0..8 {
                 let fields = Fields { layout, ..chance.few_rounds(width, height) };
                 let framed = |samples| Frame { width, height, layout, samples };
                 let mosaic = framed(chance.samples(width * height));

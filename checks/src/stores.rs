@@ -17,7 +17,7 @@ pub fn sound(chance: &mut Chance) -> Stores {
         let packet = chance.small_packet();
         stores.push(("sound", chance.after_older_bytes(&packet)));
     }
-    for layout in 0..4 {
+    for layout in 0..8 {
         for rounds in 0..=64 {
             let fields = Fields { layout, rounds, ..chance.small_fields() };
             let samples = chance.samples(fields.width * fields.height);
@@ -71,7 +71,7 @@ fn fields_at_their_limits(chance: &mut Chance, stores: &mut Stores) {
             all.push(Fields { width: length, height: 2, ..fields });
             all.push(Fields { width: 2, height: length, ..fields });
         }
-        for layout in [0, 1, 2, 3, 4, 5, 127, 128, 255] {
+        for layout in (0..=9).chain([11, 12, 15, 16, 127, 128, 132, 255]) {
             all.push(Fields { layout, ..fields });
         }
         for rounds in [0, 1, 63, 64, 65, 66, 127, 128, 255] {
@@ -152,7 +152,7 @@ pub fn wrong(chance: &mut Chance, fields: &Fields, questions: &[u32]) -> Vec<u8>
         match question {
             1 => fields.width = chance.one_of(&[0, 1, 2049, 65535]),
             2 => fields.height = chance.one_of(&[0, 1, 2049, 65535]),
-            3 => fields.layout = chance.one_of(&[4, 255]),
+            3 => fields.layout = chance.one_of(&[8, 12, 255]),
             4 => fields.rounds = chance.one_of(&[65, 255]),
             5 => fields.threshold = chance.one_of(&[4096, 65535]),
             9 => *chance.one_in(&mut samples) = chance.one_of(&[4096, 65535]),

@@ -30,6 +30,8 @@ impl Frame {
         let layout = match self.layout {
             1 => 2,
             2 => 1,
+            5 => 6,
+            6 => 5,
             other => other,
         };
         Frame::filled(self.height, self.width, layout, |i, j| self.at(j, i))
@@ -38,7 +40,7 @@ impl Frame {
     fn mirrored_left_right(&self) -> Frame {
         let (row, column) = red_parities(self.layout);
         let column = if self.width % 2 == 0 { 1 - column } else { column };
-        Frame::filled(self.width, self.height, layout_of((row, column)), |i, j| {
+        Frame::filled(self.width, self.height, layout_of((row, column), self.layout), |i, j| {
             self.at(i, self.width - 1 - j)
         })
     }
@@ -46,7 +48,7 @@ impl Frame {
     fn mirrored_top_bottom(&self) -> Frame {
         let (row, column) = red_parities(self.layout);
         let row = if self.height % 2 == 0 { 1 - row } else { row };
-        Frame::filled(self.width, self.height, layout_of((row, column)), |i, j| {
+        Frame::filled(self.width, self.height, layout_of((row, column), self.layout), |i, j| {
             self.at(self.height - 1 - i, j)
         })
     }
@@ -155,6 +157,8 @@ mod tests {
         assert_eq!(turn_samples(7, 2, 2, 3, &[0; 3], &mut [0; 3]), Err(6));
         assert_eq!(turn_samples(7, 2, 2, 3, &[0; 4], &mut [0; 3]), Err(7));
         assert_eq!(turn_samples(7, 2, 2, 3, &[0; 4], &mut [0; 4]), Ok((2, 2, 0)));
+        assert_eq!(turn_samples(7, 2, 2, 7, &[0; 4], &mut [0; 4]), Ok((2, 2, 4)));
+        assert_eq!(turned_shape(0, 2, 2, 8), Err(3));
     }
 
     #[test]
@@ -179,7 +183,7 @@ mod tests {
     #[test]
     fn a_turned_place_keeps_its_colour() {
         for (width, height) in [(2, 2), (3, 2), (2, 3), (5, 4), (7, 5)] {
-            for layout in 0..4 {
+            for layout in 0..8 {
                 let colours = Frame::filled(width, height, layout, |i, j| colour(layout, i, j) as u16);
                 for turn in 0..8 {
                     let turned = colours.turned(turn);
@@ -187,6 +191,7 @@ mod tests {
                         colour(turned.layout, i, j) as u16
                     });
                     assert_eq!(turned, expected, "{width} by {height}, layout {layout}, turn {turn}");
+                    assert_eq!(turned.layout / 4, layout / 4, "a turn keeps the 4");
                 }
             }
         }

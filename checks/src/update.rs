@@ -87,7 +87,7 @@ mod tests {
     /// One value has no detail: bands 2 to 4 are 0, and band 1 of green gives green back.
     #[test]
     fn two_by_two() {
-        for layout in 0..4 {
+        for layout in 0..8 {
             let frame = Frame { width: 2, height: 2, layout, samples: vec![4095, 0, 17, 4095] };
             assert_eq!(update_of(&frame, &[1, 2, 3, 4]), [1, 2, 3, 4]);
         }
@@ -112,15 +112,27 @@ mod tests {
         let chance = &mut Chance(0x0123_4567_89ab_cdef);
         for width in 1..=9 {
             for height in 1..=9 {
-                let [green, coloured] = [(); 2].map(|_| -> Vec<i32> {
-                    chance.samples(width * height).into_iter().map(i32::from).collect()
-                });
-                let sums = joined(width, height, &green, &coloured);
+                let [green, coloured] = [(); 2].map(|_| chance.samples(width * height));
+                let signed =
+                    |plane: &[u16]| -> Vec<i32> { plane.iter().map(|&sample| sample.into()).collect() };
+                let sums = joined(width, height, &signed(&green), &signed(&coloured));
                 for (k, &sum) in sums.iter().enumerate() {
-                    let due = mixed_sum(width, height, k, &green, &coloured);
-                    assert_eq!(sum, due, "{width} by {height}, place {k}");
+                    let due = mixed_sum(false, width, height, k, &green, &coloured);
+                    assert_eq!(i64::from(sum), due, "{width} by {height}, place {k}");
                 }
             }
+        }
+    }
+
+    /// The green update stays one-level: 4 more changes nothing.
+    #[test]
+    fn at_one_level_always() {
+        let chance = &mut Chance(0x2545_f491_4f6c_dd1d);
+        for layout in 0..4 {
+            let frame = Frame { width: 9, height: 8, layout, samples: chance.samples(72) };
+            let green = chance.samples(72);
+            let two_levels = Frame { layout: layout + 4, ..frame.clone() };
+            assert_eq!(update_of(&two_levels, &green), update_of(&frame, &green), "layout {layout}");
         }
     }
 
@@ -129,7 +141,7 @@ mod tests {
     fn turned() {
         let chance = &mut Chance(0x9e37_79b9_7f4a_7c15);
         for (width, height) in [(2, 2), (3, 2), (2, 5), (5, 4), (7, 7), (9, 12)] {
-            for layout in 0..4 {
+            for layout in 0..8 {
                 let frame = Frame { width, height, layout, samples: chance.samples(width * height) };
                 let green = Frame { samples: chance.samples(width * height), ..frame.clone() };
                 let updated = Frame { samples: update_of(&frame, &green.samples), ..frame.clone() };

@@ -74,11 +74,11 @@ fn refusals(out: &mut String) {
         (6, 2, 65535, 0, 4, 4),
         (0, 2, 2, 255, 4, 4),
         // first among several
-        (255, 0, 0, 4, 3, 3),
+        (255, 0, 0, 8, 3, 3),
         (3, most, most, 255, 3, 3),
-        (1, 1, 2049, 4, 3, 3),
-        (5, 2, 2049, 4, 3, 3),
-        (7, 2, 2, 4, 3, 3),
+        (1, 1, 2049, 8, 3, 3),
+        (5, 2, 2049, 8, 3, 3),
+        (7, 2, 2, 8, 3, 3),
         (2, 2, 2, 2, 3, 3),
         // the buffers
         (1, 2, 2, 3, 3, 4),
@@ -98,7 +98,7 @@ fn frames(out: &mut String) {
     for (width, height) in [(2, 2), (3, 2), (2, 3), (5, 4)] {
         let samples: Vec<u16> = (0..(width * height) as u16).collect();
         for turn in 0..8 {
-            for layout in 0..4 {
+            for layout in 0..8 {
                 example(out, turn, width, height, layout, &samples, &mut vec![7; width * height]);
             }
         }

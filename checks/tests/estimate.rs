@@ -69,11 +69,11 @@ fn accepted(ask: &Ask, kind: &str) -> [Vec<u16>; 3] {
     planes.map(|plane| plane.inside().to_vec())
 }
 
-/// Mosaics of every kind in every layout.
+/// Mosaics of every kind with red at every place, in layouts of either level.
 fn all_kinds(chance: &mut Chance, width: usize, height: usize) {
-    for layout in 0..4 {
+    for red in 0..4 {
         for (kind, mosaic) in kinds(chance, width, height) {
-            accepted(&Ask::of(width, height, layout, &mosaic), &kind);
+            accepted(&Ask::of(width, height, chance.one_of(&[red, red + 4]), &mosaic), &kind);
         }
     }
 }
@@ -83,6 +83,7 @@ fn spikes(width: usize, height: usize) {
     let count = width * height;
     for layout in 0..4 {
         for place in 0..count {
+            let layout = layout + 4 * (place as u32 % 2);
             for (value, others) in [(4095, 0), (0, 4095), (1, 0), (2001, 2000)] {
                 let mosaic = spike(count, place, value, others);
                 let kind = format!("{value} at place {place}, {others} at the others");
@@ -141,7 +142,7 @@ fn assert_green(chance: &mut Chance, along_row: Line, along_column: Line, due: u
             mosaic[(i + k - 2) * width + j] = along_column[k];
         }
         // the layouts in which green is not here
-        for layout in if i % 2 == j % 2 { [0, 3] } else { [1, 2] } {
+        for layout in if i % 2 == j % 2 { [0, 3, 4, 7] } else { [1, 2, 5, 6] } {
             let [_, green, _] = accepted(&Ask::of(width, height, layout, &mosaic), "a lettered case");
             assert_eq!(green[i * width + j], due, "layout {layout}, row {i}, column {j}");
         }
@@ -171,7 +172,7 @@ fn two_by_two_by_hand() {
     mosaics.extend((0..200).map(|_| chance.samples(4)));
     // the places of red, of the two greens and of blue
     let places = [[0, 1, 2, 3], [1, 0, 3, 2], [2, 0, 3, 1], [3, 1, 2, 0]];
-    for (layout, [red, one, other, blue]) in (0..4).zip(places) {
+    for (layout, [red, one, other, blue]) in (0..8).zip(places.into_iter().cycle()) {
         for mosaic in &mosaics {
             let mut green = mosaic.clone();
             green[red] = (mosaic[one] + mosaic[other] + 1) / 2;
@@ -188,9 +189,11 @@ fn three_by_three_by_hand() {
     let mosaic = [7, 20, 1, 3, 9, 8, 4, 6, 100];
     let red = [7, 4, 1, 6, 28, 51, 4, 52, 100];
     let green = [5, 20, 17, 3, 6, 8, 2, 6, 54];
-    assert_eq!(accepted(&Ask::of(3, 3, 0, &mosaic), "by hand"), [red, green, [9; 9]]);
-    // red and blue exchanged
-    assert_eq!(accepted(&Ask::of(3, 3, 3, &mosaic), "by hand"), [[9; 9], green, red]);
+    for more in [0, 4] {
+        assert_eq!(accepted(&Ask::of(3, 3, more, &mosaic), "by hand"), [red, green, [9; 9]]);
+        // red and blue exchanged
+        assert_eq!(accepted(&Ask::of(3, 3, 3 + more, &mosaic), "by hand"), [[9; 9], green, red]);
+    }
 }
 
 /// Questions 6 and 7, each answered no alone: of each buffer, and of two planes whose lengths together would be right.
@@ -246,7 +249,7 @@ impl FrameCall for Ask {
     const QUESTIONS: &'static [u32] = &[1, 2, 3, 6, 7, 9];
 
     fn sound(chance: &mut Chance, width: usize, height: usize) -> Self {
-        let layout = chance.between(0, 3) as u32;
+        let layout = chance.layout();
         Ask::of(width, height, layout, &chance.samples(width * height))
     }
 

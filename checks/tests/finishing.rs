@@ -1,17 +1,18 @@
 //! The C call `demosaic_finish` answers what the reference answers, and leaves in every buffer, and beside it, what the
-//! reference leaves; and what it makes of a turned frame is what it makes of the frame, turned.
+//! reference leaves, with one level of the filter bank and with two; and what it makes of a turned frame is what it makes of
+//! the frame, turned.
 
-use checks::buffers::assert_same;
+use checks::buffers::{assert_same, Number};
 use checks::chance::Chance;
 use checks::estimate::estimates_of;
 use checks::finishing::{finish, finished_of};
-use checks::mosaic::{Colour, Mosaic};
+use checks::mosaic::{has_two_levels, Colour, Mosaic};
 use checks::mosaics::{filled, kinds, longer_lengths, spike};
 use checks::packet::Fields;
 use checks::planes_call::{self, settings, Call, Planes, PlanesCall, COLOURS};
-use checks::planes_call::{large_frames_refused, lengths_refused, samples_refused};
+use checks::planes_call::{large_frames_refused, lengths_refused, samples_refused, work_refused};
 use checks::refusals::{refusals, sets, wrong_lengths, wrong_number, Counts, FrameCall};
-use checks::rounds::rounds;
+use checks::rounds::{rounds, wide_needed};
 use checks::turns::{after_list, Frame, Turning};
 
 #[path = "../src/library.rs"]
@@ -22,7 +23,7 @@ struct Finishing;
 
 impl PlanesCall for Finishing {
     const NAME: &'static str = "finishing";
-    const QUESTIONS: &'static [u32] = &[1, 2, 3, 4, 5, 6, 7, 8, 9];
+    const QUESTIONS: &'static [u32] = &[1, 2, 3, 4, 5, 6, 7, 8, 18, 9];
     const LIBRARY: Call = library::finish;
     const REFERENCE: Call = finish;
 
@@ -47,7 +48,7 @@ fn random(chance: &mut Chance, width: usize, height: usize, rounds: u32, thresho
 
 /// The widths and heights of all small frames.
 fn small_sizes() -> impl Iterator<Item = (usize, usize)> {
-    (2..=9).flat_map(|width| (2..=9).map(move |height| (width, height)))
+    (2..=10).flat_map(|width| (2..=10).map(move |height| (width, height)))
 }
 
 /// All rounds and thresholds that are tried, with mosaics of kinds by chance.
@@ -90,7 +91,7 @@ fn spikes(chance: &mut Chance, width: usize, height: usize) {
 fn every_small_size_with_every_setting() {
     let chance = &mut Chance(0x9e37_79b9_7f4a_7c15);
     for (width, height) in small_sizes() {
-        (0..4).for_each(|layout| all_settings(chance, width, height, layout));
+        (0..8).for_each(|layout| all_settings(chance, width, height, layout));
     }
 }
 
@@ -98,7 +99,10 @@ fn every_small_size_with_every_setting() {
 fn every_small_size_with_every_kind() {
     let chance = &mut Chance(0x2545_f491_4f6c_dd1d);
     for (width, height) in small_sizes() {
-        (0..4).for_each(|layout| all_kinds(chance, width, height, layout));
+        (0..4).for_each(|red| {
+            let layout = chance.one_of(&[red, red + 4]);
+            all_kinds(chance, width, height, layout);
+        });
         spikes(chance, width, height);
     }
 }
@@ -129,17 +133,23 @@ fn large_frames() {
             random(chance, other, length, 3, 20).accepted("random");
         }
     }
-    for (width, height, rounds) in [(2048, 2048, 2), (1025, 300, 3), (127, 513, 5)] {
-        random(chance, width, height, rounds, 20).accepted("random");
+    for (width, height, rounds) in [(2048, 2048, 1), (1025, 300, 3), (127, 513, 5)] {
+        let ask = random(chance, width, height, rounds, 20);
+        let two_levels = Fields { layout: ask.fields.layout | 4, ..ask.fields };
+        Ask { fields: two_levels, ..ask }.accepted("random");
     }
+    let fields = Fields { width: 600, height: 401, layout: 2, rounds: 2, threshold: 20 };
+    let mosaic = chance.samples(600 * 401);
+    of_mosaic(chance, fields, &mosaic).accepted("random");
 }
 
-/// What a call leaves that skips a step or exchanges two.
-fn shortcuts(fields: &Fields, mosaic: &[u16]) -> [(&'static str, Planes); 6] {
+/// What a call leaves that skips a step, exchanges two, or takes the other number of levels.
+fn shortcuts(fields: &Fields, mosaic: &[u16]) -> [(&'static str, Planes); 7] {
     let with_rounds = |rounds| finished_of(&Fields { rounds, ..*fields }, mosaic);
     let estimates = estimates_of(fields.width, fields.height, fields.layout, mosaic);
     let [mut red, green, mut blue] = estimates.clone();
-    rounds(fields, mosaic, &mut red, &green, &mut blue, &mut vec![0; 8 * mosaic.len()]).unwrap();
+    let (mut work, mut wide_work) = (vec![0; 8 * mosaic.len()], vec![0; wide_needed(fields)]);
+    rounds(fields, mosaic, &mut red, &green, &mut blue, &mut work, &mut wide_work).unwrap();
     let [_, updated, _] = with_rounds(0);
     [
         ("the estimates", estimates),
@@ -148,6 +158,7 @@ fn shortcuts(fields: &Fields, mosaic: &[u16]) -> [(&'static str, Planes); 6] {
         ("one round less", with_rounds(fields.rounds - 1)),
         ("no update", [red.clone(), green, blue.clone()]),
         ("the update after the rounds", [red, updated, blue]),
+        ("the other levels", finished_of(&Fields { layout: fields.layout ^ 4, ..*fields }, mosaic)),
     ]
 }
 
@@ -157,7 +168,9 @@ fn no_step_is_left_out() {
     let chance = &mut Chance(0x5851_f42d_4c95_7f2d);
     for (width, height) in [(4, 4), (7, 5), (6, 9), (16, 11), (31, 18)] {
         for (rounds, threshold) in [2, 3, 8].into_iter().flat_map(|n| [0, 20, 300].map(|t| (n, t))) {
-            let ask = random(chance, width, height, rounds, threshold);
+            let mut ask = random(chance, width, height, rounds, threshold);
+            // with one level in a frame, with two in the next
+            ask.fields.layout = ask.fields.layout % 4 + 4 * ((rounds + threshold / 20) % 2);
             let found = ask.accepted("random");
             for (name, planes) in shortcuts(&ask.fields, &ask.mosaic) {
                 assert!(found != planes, "{:?}, {name}", ask.fields);
@@ -180,19 +193,27 @@ fn many_rounds() {
     }
 }
 
-/// The library's number and planes, where planes and work buffer held anything before.
+/// The library's number and planes, where planes and work buffers held anything before.
 fn finished(chance: &mut Chance, ask: &Ask) -> (u32, Planes) {
     let before = ask.planes.each_ref().map(|plane| chance.any_samples(plane.len()));
-    let work_before = chance.any_numbers(ask.work);
-    let (mut planes, mut work) = (before.clone(), work_before.clone());
+    let (work_before, wide_before) = (chance.any_numbers(ask.work), chance.any_wide_numbers(ask.wide_work));
+    let (mut planes, mut work, mut wide_work) = (before.clone(), work_before.clone(), wide_before.clone());
     let lent = planes.each_mut().map(|plane| &mut plane[..]);
-    let number = library::finish(&ask.fields, &ask.mosaic, lent, &mut work).err().unwrap_or(0);
+    let answer = library::finish(&ask.fields, &ask.mosaic, lent, &mut work, &mut wide_work);
+    let number = answer.err().unwrap_or(0);
     let what = format!("finishing of {:?}, answered {number}", ask.fields);
-    let zeroed = if number == 0 { 8 * ask.mosaic.len() } else { 0 };
-    assert!(work[..zeroed].iter().all(|&left| left == 0), "{what}: work buffer not zeroed");
-    assert_same(&work[zeroed..], &work_before[zeroed..], &format!("{what}: work buffer from {zeroed} on"));
     assert!(number == 0 || planes == before, "{what}: a plane touched");
+    let zeroed = if number == 0 { 8 * ask.mosaic.len() } else { 0 };
+    assert_zeroed(&work, &work_before, zeroed, &format!("{what}: work buffer"));
+    let zeroed = if has_two_levels(ask.fields.layout) { zeroed } else { 0 };
+    assert_zeroed(&wide_work, &wide_before, zeroed, &format!("{what}: wide work buffer"));
     (number, planes)
+}
+
+/// So many numbers are 0, and the rest are as before.
+fn assert_zeroed<T: Number + Default>(after: &[T], before: &[T], zeroed: usize, what: &str) {
+    assert!(after[..zeroed].iter().all(|&left| left == T::default()), "{what} not zeroed");
+    assert_same(&after[zeroed..], &before[zeroed..], &format!("{what} from {zeroed} on"));
 }
 
 #[test]
@@ -201,7 +222,7 @@ fn whatever_the_buffers_held() {
     for (width, height) in small_sizes().chain([(33, 17), (64, 40), (101, 3)]) {
         for (rounds, more) in [(0, 0), (1, 5), (3, 64)] {
             let mut ask = random(chance, width, height, rounds, 20);
-            ask.work += more;
+            (ask.work, ask.wide_work) = (ask.work + more, ask.wide_work + 2 * more);
             let due = (0, ask.accepted("random"));
             for _ in 0..3 {
                 assert!(finished(chance, &ask) == due, "{:?}, other contents before", ask.fields);
@@ -255,8 +276,8 @@ fn of_a_kind(chance: &mut Chance, width: usize, height: usize, layout: u32) -> A
 fn turned_frames() {
     let chance = &mut Chance(0xc2b2_ae3d_27d4_eb4f);
     for (width, height) in small_sizes().chain([(16, 16), (31, 18), (40, 9), (17, 66), (129, 2)]) {
-        for (layout, turn) in (0..4).flat_map(|layout| (0..8).map(move |turn| (layout, turn))) {
-            for _ in 0..3 {
+        for (layout, turn) in (0..8).flat_map(|layout| (0..8).map(move |turn| (layout, turn))) {
+            for _ in 0..2 {
                 let ask = of_a_kind(chance, width, height, layout);
                 assert_eq!(assert_turned_alike(chance, &ask, &[(turn, width * height)]), 0);
             }
@@ -269,7 +290,7 @@ fn frames_turned_by_lists() {
     let chance = &mut Chance(0x1656_67b1_9e37_79f9);
     let (mut calls, mut accepted) = (0, 0);
     for (width, height) in small_sizes() {
-        for layout in (0..4).flat_map(|layout| [layout; 6]) {
+        for layout in (0..8).flat_map(|layout| [layout; 4]) {
             let list = random_list(chance, width, height);
             let ask = of_a_kind(chance, width, height, layout);
             assert_eq!(assert_turned_alike(chance, &ask, &list), 0);
@@ -281,12 +302,13 @@ fn frames_turned_by_lists() {
     assert!(accepted > calls / 2 && accepted < calls * 5 / 8, "{accepted} of {calls} turning calls accepted");
 }
 
-/// Samples, rounds and a threshold out of range, planes and work buffers of another length, alone and several at once.
+/// Samples, rounds and a threshold out of range, planes and work buffers, wide ones too, of another length, alone and several
+/// at once.
 #[test]
 fn turned_frames_refused_alike() {
     let chance = &mut Chance(0x27d4_eb2f_1656_67c5);
     let mut counts = Counts::default();
-    for questions in sets(&[4, 5, 7, 8, 9]) {
+    for questions in sets(&[4, 5, 7, 8, 18, 9]) {
         for _ in 0..40 {
             let ask = Ask::wrong(chance, &questions);
             let list = random_list(chance, ask.fields.width, ask.fields.height);
@@ -295,14 +317,15 @@ fn turned_frames_refused_alike() {
             counts.add(number);
         }
     }
-    counts.assert_complete("finishing, turned", &[4, 5, 7, 8, 9]);
+    counts.assert_complete("finishing, turned", &[4, 5, 7, 8, 18, 9]);
 }
 
 #[test]
 fn a_large_frame_turned() {
     let chance = &mut Chance(0x85eb_ca77_c2b2_ae63);
     let (width, height) = (501, 333);
-    let ask = random(chance, width, height, 3, 20);
+    let mut ask = random(chance, width, height, 3, 20);
+    ask.fields.layout = 5;
     ask.accepted("random");
     let count = width * height;
     for turn in 1..8 {
@@ -313,24 +336,33 @@ fn a_large_frame_turned() {
     let mut above = ask.clone();
     above.mosaic[count - 1] = 4096;
     assert_eq!(assert_turned_alike(chance, &above, &list), 9);
-    assert_eq!(assert_turned_alike(chance, &Ask { work: 8 * count - 1, ..ask }, &list), 8);
+    let short = Ask { work: 8 * count - 1, ..ask.clone() };
+    assert_eq!(assert_turned_alike(chance, &short, &list), 8);
+    assert_eq!(assert_turned_alike(chance, &Ask { wide_work: 8 * count - 1, ..ask }, &list), 18);
 }
 
 #[test]
 fn the_printed_frame() {
     let chance = &mut Chance(0xff51_afd7_ed55_8ccd);
-    let fields = Fields { width: 2, height: 2, layout: 0, rounds: 8, threshold: 0 };
-    let found = of_mosaic(chance, fields, &[100, 50, 50, 20]).accepted("printed");
-    assert_eq!(found, [[100; 4], [50; 4], [20; 4]]);
+    for layout in [0, 4] {
+        let fields = Fields { width: 2, height: 2, layout, rounds: 8, threshold: 0 };
+        let found = of_mosaic(chance, fields, &[100, 50, 50, 20]).accepted("printed");
+        assert_eq!(found, [[100; 4], [50; 4], [20; 4]]);
+    }
 }
 
-/// As document 01 writes them.
+/// As documents 01 and 02 write them.
 #[test]
 fn the_limits_in_words() {
     let chance = &mut Chance(0xc4ce_b9fe_1a85_ec53);
     for (length, of_width, of_height) in [(1, 1, 2), (2, 0, 0), (2048, 0, 0), (2049, 1, 2)] {
         assert_eq!(Ask::sound(chance, length, 2).number("a width"), of_width, "width {length}");
         assert_eq!(Ask::sound(chance, 2, length).number("a height"), of_height, "height {length}");
+    }
+    for (layout, number) in [(3, 0), (4, 0), (7, 0), (8, 3), (255, 3), (256 + 4, 3), (u32::MAX, 3)] {
+        let mut ask = Ask::sound(chance, 3, 2);
+        ask.fields.layout = layout;
+        assert_eq!(ask.number("a layout"), number, "layout {layout}");
     }
     for (threshold, number) in [(4095, 0), (4096, 5)] {
         assert_eq!(random(chance, 3, 2, 1, threshold).number("a threshold"), number, "threshold {threshold}");
@@ -346,6 +378,7 @@ fn the_limits_in_words() {
 fn refused() {
     refusals::<Ask>(|chance, counts| {
         lengths_refused::<Finishing>(chance, counts);
+        work_refused::<Finishing>(chance, counts);
         samples_refused::<Finishing>(chance, counts);
         large_frames_refused::<Finishing>(counts);
     });

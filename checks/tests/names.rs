@@ -3,17 +3,25 @@
 
 use checks::compiled::{compile, Language, C, C_PLUS_PLUS};
 use checks::header::{refusal_text, Header, REFUSALS};
-use checks::mosaic::{Colour, Mosaic};
+use checks::mosaic::{has_two_levels, Colour, Mosaic};
 use std::collections::BTreeSet;
 use std::process::Command;
 
 /// Each colour's letter is that of its place in rows 0 and 1.
-const LAYOUTS: [(&str, u32); 4] =
-    [("DEMOSAIC_RGGB", 0), ("DEMOSAIC_GRBG", 1), ("DEMOSAIC_GBRG", 2), ("DEMOSAIC_BGGR", 3)];
+const LAYOUTS: [(&str, u32); 8] = [
+    ("DEMOSAIC_RGGB", 0),
+    ("DEMOSAIC_GRBG", 1),
+    ("DEMOSAIC_GBRG", 2),
+    ("DEMOSAIC_BGGR", 3),
+    ("DEMOSAIC_RGGB_TWO_LEVELS", 4),
+    ("DEMOSAIC_GRBG_TWO_LEVELS", 5),
+    ("DEMOSAIC_GBRG_TWO_LEVELS", 6),
+    ("DEMOSAIC_BGGR_TWO_LEVELS", 7),
+];
 
 const LIMITS: [(&str, u32); 6] = [
     ("DEMOSAIC_VERSION_MAJOR", 4),
-    ("DEMOSAIC_VERSION_MINOR", 0),
+    ("DEMOSAIC_VERSION_MINOR", 1),
     ("DEMOSAIC_MIN_SIDE", 2),
     ("DEMOSAIC_MAX_SIDE", 2048),
     ("DEMOSAIC_MAX_ROUNDS", 64),
@@ -61,7 +69,7 @@ fn there_is_nothing_else() {
     assert_eq!(header.numbers_of("demosaic_refusal"), REFUSALS.map(|(name, number, _)| named(name, number)));
     assert_eq!(header.numbers_of("demosaic_layout"), LAYOUTS.map(|(name, number)| named(name, number)));
     let macros = header.macros.iter().map(|behind| behind.split([' ', '(']).next().unwrap());
-    let lengths = ["DEMOSAIC_PACKET_BYTES", "DEMOSAIC_WORK_LEN"];
+    let lengths = ["DEMOSAIC_PACKET_BYTES", "DEMOSAIC_WORK_LEN", "DEMOSAIC_WIDE_WORK_LEN"];
     let due = ["DEMOSAIC_H"].into_iter().chain(LIMITS.map(|(name, _)| name)).chain(lengths);
     assert!(macros.clone().eq(due), "{:?}", macros.collect::<Vec<_>>());
 }
@@ -101,16 +109,21 @@ fn a_text_for_every_number() {
         }
     }
     // a text of its own for each, and a common one
-    let texts: BTreeSet<&str> = (0..=18).map(refusal_text).collect();
-    assert_eq!(texts.len(), 19);
-    assert!(numbers.iter().all(|&number| number <= 17 || refusal_text(number) == refusal_text(18)));
+    let texts: BTreeSet<&str> = (0..=19).map(refusal_text).collect();
+    assert_eq!(texts.len(), 20);
+    assert!(numbers.iter().all(|&number| number <= 18 || refusal_text(number) == refusal_text(19)));
 }
 
-/// A name says the colours of rows 0 and 1 at columns 0 and 1, and these are the reference's.
+/// A name says the colours of rows 0 and 1 at columns 0 and 1, and whether there are two levels; these are the reference's.
 #[test]
 fn the_layouts_say_where_red_is() {
     for (name, layout) in LAYOUTS {
-        let letters = name.strip_prefix("DEMOSAIC_").unwrap().chars();
+        let (colours, two_levels) = match name.strip_suffix("_TWO_LEVELS") {
+            Some(colours) => (colours, true),
+            None => (name, false),
+        };
+        assert_eq!(has_two_levels(layout), two_levels, "{name}");
+        let letters = colours.strip_prefix("DEMOSAIC_").unwrap().chars();
         let mosaic = Mosaic { width: 2, height: 2, layout, samples: &[0; 4] };
         let places = [(0, 0), (0, 1), (1, 0), (1, 1)];
         let due = places.map(|(i, j)| match mosaic.colour(i, j) {
@@ -145,7 +158,8 @@ fn the_lengths() {
     ];
     let lengths = |(text, width, height): (&str, u64, u64)| {
         let (packet, work) = (2 * width * height + 12, 8 * width * height);
-        [(format!("DEMOSAIC_PACKET_BYTES({text})"), packet), (format!("DEMOSAIC_WORK_LEN({text})"), work)]
+        [("PACKET_BYTES", packet), ("WORK_LEN", work), ("WIDE_WORK_LEN", work)]
+            .map(|(name, length)| (format!("DEMOSAIC_{name}({text})"), length))
     };
     assert_values("lengths", before, &sides.into_iter().flat_map(lengths).collect::<Vec<_>>());
 }
@@ -154,18 +168,24 @@ fn the_lengths() {
 #[test]
 fn the_lengths_as_numbers() {
     let before = "typedef uint8_t packet[DEMOSAIC_PACKET_BYTES(3, 2)];\n\
-                  typedef int32_t work[DEMOSAIC_WORK_LEN(3, 2)];\n";
+                  typedef int32_t work[DEMOSAIC_WORK_LEN(3, 2)];\n\
+                  typedef int64_t wide_work[DEMOSAIC_WIDE_WORK_LEN(3, 2)];\n";
     let due = [
         ("1000 / DEMOSAIC_PACKET_BYTES(2, 2)", 50),
         ("DEMOSAIC_PACKET_BYTES(2, 2) * 3", 60),
         ("1000 / DEMOSAIC_WORK_LEN(2, 2)", 31),
         ("1000 % DEMOSAIC_WORK_LEN(3, 2)", 40),
+        ("1000 / DEMOSAIC_WIDE_WORK_LEN(2, 2)", 31),
+        ("1000 % DEMOSAIC_WIDE_WORK_LEN(3, 2)", 40),
         ("sizeof(packet)", 24),
         ("sizeof(work)", 4 * 48),
+        ("sizeof(wide_work)", 8 * 48),
         ("sizeof(DEMOSAIC_PACKET_BYTES(2, 2)) == sizeof(size_t)", 1),
         ("sizeof(DEMOSAIC_WORK_LEN(2, 2)) == sizeof(size_t)", 1),
+        ("sizeof(DEMOSAIC_WIDE_WORK_LEN(2, 2)) == sizeof(size_t)", 1),
         ("DEMOSAIC_PACKET_BYTES(0, 0) - 13 == SIZE_MAX", 1),
         ("DEMOSAIC_WORK_LEN(0, 0) - 1 == SIZE_MAX", 1),
+        ("DEMOSAIC_WIDE_WORK_LEN(0, 0) - 1 == SIZE_MAX", 1),
     ];
     assert_values("as_numbers", before, &due.map(|(expression, value)| (expression.to_string(), value)));
 }
@@ -183,6 +203,10 @@ fn the_lengths_ask_once() {
         ("asked", 3),
         ("DEMOSAIC_WORK_LEN(3, side(2))", 48),
         ("asked", 4),
+        ("DEMOSAIC_WIDE_WORK_LEN(side(3), 2)", 48),
+        ("asked", 5),
+        ("DEMOSAIC_WIDE_WORK_LEN(3, side(2))", 48),
+        ("asked", 6),
     ];
     assert_values("asked", before, &due.map(|(expression, value)| (expression.to_string(), value)));
 }

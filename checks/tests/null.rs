@@ -1,8 +1,10 @@
 //! A buffer may be NULL where its length is 0: every call that has buffers answers then what it answers of an empty buffer
-//! with a pointer to numbers, by the question about its length, and writes nothing. A C program makes the calls.
+//! with a pointer to numbers, by the question about its length, and writes nothing. With one level no question is asked about
+//! the wide work buffer. A C program makes the calls.
 
 use checks::compiled::compiled;
 use checks::header::Header;
+use checks::mosaic::has_two_levels;
 use checks::text::assert_same;
 use std::collections::BTreeMap;
 use std::fmt::Write;
@@ -17,10 +19,10 @@ const CALLS: [(&str, &[u32]); 12] = [
     ("demosaic_packet_write", &[6, 14]),
     ("demosaic_packet_repeats", &[11, 11]),
     ("demosaic_turn", &[6, 7]),
-    ("demosaic_finish", &[6, 7, 7, 7, 8]),
+    ("demosaic_finish", &[6, 7, 7, 7, 8, 18]),
     ("demosaic_estimate", &[6, 7, 7, 7]),
     ("demosaic_update", &[6, 6, 8]),
-    ("demosaic_rounds", &[6, 7, 7, 7, 8]),
+    ("demosaic_rounds", &[6, 7, 7, 7, 8, 18]),
     ("demosaic_split", &[6, 7, 7, 7, 7]),
     ("demosaic_join", &[6, 6, 6, 6, 7]),
 ];
@@ -36,11 +38,12 @@ fn no_call_and_no_buffer_is_left_out() {
 
 /// The number of a call of which the buffers of this set are empty. A frame of no samples is refused by its width, though
 /// its empty buffers are as long as they have to be; a reader is told no width.
-fn number(questions: &[u32], set: usize, side: usize) -> u32 {
+fn number(questions: &[u32], set: usize, side: usize, layout: u32) -> u32 {
     if side == 0 && questions[0] != 11 {
         return 1;
     }
-    (0..questions.len()).find(|k| set >> k & 1 == 1).map_or(0, |first| questions[first])
+    let refused = |k: &usize| set >> k & 1 == 1 && (questions[*k] != 18 || has_two_levels(layout));
+    (0..questions.len()).find(refused).map_or(0, |first| questions[first])
 }
 
 #[test]
@@ -49,9 +52,11 @@ fn null_is_an_empty_buffer() {
     let output = Command::new(program).output().unwrap();
     let mut due = String::new();
     for (name, questions) in CALLS {
-        for (set, side) in (0..1 << questions.len()).flat_map(|set| [(set, 0), (set, 2)]) {
-            let number = number(questions, set, side);
-            writeln!(due, "{name}, side {side}, set {set}: {number} {number}").unwrap();
+        for set in 0..1 << questions.len() {
+            for (side, layout) in [(0, 1), (0, 5), (2, 1), (2, 5)] {
+                let number = number(questions, set, side, layout);
+                writeln!(due, "{name}, side {side}, layout {layout}, set {set}: {number} {number}").unwrap();
+            }
         }
     }
     assert_same(&String::from_utf8_lossy(&output.stdout), &due, "empty buffers");

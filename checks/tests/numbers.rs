@@ -42,16 +42,16 @@ fn line(chance: &mut Chance, questions: &[u32]) -> Line {
 fn numbers((turn, fields): Line) -> [u32; 8] {
     let Fields { width, height, layout, .. } = fields;
     let [mut red, mut green, mut blue] = [[7; 4]; 3];
-    let (mut packet, mut work) = ([7; 20], [7; 32]);
+    let (mut packet, mut work, mut wide_work) = ([7; 20], [7; 32], [7; 32]);
     let answers = [
         turn_samples(turn, width, height, layout, &MOSAIC, &mut red).map(|_| ()),
         turned_shape(turn, width, height, layout).map(|_| ()),
         then_another(turn, fields.rounds).map(|_| ()),
         packet::write(&fields, &MOSAIC, &mut packet).map(|_| ()),
-        finish(&fields, &MOSAIC, [&mut red, &mut green, &mut blue], &mut work),
+        finish(&fields, &MOSAIC, [&mut red, &mut green, &mut blue], &mut work, &mut wide_work),
         estimate(width, height, layout, &MOSAIC, [&mut red, &mut green, &mut blue]),
         update(width, height, layout, &MOSAIC, &mut green, &mut work),
-        rounds(&fields, &MOSAIC, &mut red, &green, &mut blue, &mut work),
+        rounds(&fields, &MOSAIC, &mut red, &green, &mut blue, &mut work, &mut wide_work),
     ];
     answers.map(|answer| answer.err().unwrap_or(0))
 }

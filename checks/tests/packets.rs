@@ -290,7 +290,7 @@ fn written_then_read() {
     let limits = [(0, 0), (64, 4095), (1, 255), (63, 256), (32, 4094)];
     let sizes = (2..=9).flat_map(|width| (2..=9).map(move |height| (width, height)));
     for (width, height) in sizes.chain([(255, 2), (256, 3), (2, 257), (40, 50)]) {
-        for (layout, (rounds, threshold)) in (0..4).flat_map(|layout| limits.map(|limit| (layout, limit))) {
+        for (layout, (rounds, threshold)) in (0..8).flat_map(|layout| limits.map(|limit| (layout, limit))) {
             let fields = Fields { width, height, layout, rounds, threshold };
             let samples = chance.samples(width * height);
             let more = chance.one_of(&[0, 1, 13, 100]);
@@ -383,7 +383,7 @@ fn repeats_but_for_one_thing() {
         against(&Fields { rounds: 64 - fields.rounds, ..fields }, &samples, true, "rounds");
         against(&Fields { threshold: fields.threshold ^ 1, ..fields }, &samples, true, "threshold");
         against(&Fields { rounds: 0, threshold: 4095, ..fields }, &samples, true, "rounds and threshold");
-        for other in (0..4).filter(|&other| other != layout) {
+        for other in (0..8).filter(|&other| other != layout) {
             against(&Fields { layout: other, ..fields }, &samples, false, "layout");
         }
         let exchanged = Fields { width: height, height: width, ..fields };
@@ -414,7 +414,7 @@ fn repeats_in_every_shape() {
         packet::bytes(&fields, &samples)
     };
     let shapes =
-        || [2, 3, 4, 6, 8, 12].into_iter().flat_map(|width| (0..4).map(move |layout| (width, layout)));
+        || [2, 3, 4, 6, 8, 12].into_iter().flat_map(|width| (0..8).map(move |layout| (width, layout)));
     for (width, layout) in shapes() {
         for (other_width, other_layout) in shapes() {
             let due = (width, layout) == (other_width, other_layout);

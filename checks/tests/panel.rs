@@ -140,14 +140,17 @@ fn frame(chance: &mut Chance, width: usize, height: usize) -> (Fields, Vec<u16>)
     (chance.few_rounds(width, height), kinds[chance.place(kinds.len())].1.clone())
 }
 
-/// Packets of many sizes, after older bytes too.
+/// Packets of many sizes, in turn with one level and with two, after older bytes too.
 fn packets(chance: &mut Chance) -> Vec<Vec<u8>> {
     let sizes = [(2, 2), (3, 2), (2, 3), (3, 3), (5, 4), (4, 7), (9, 9), (31, 18), (2, 257), (300, 3)];
-    let packets = sizes.map(|(width, height)| {
+    let first = chance.place(2) as u32;
+    let packets = (first..).zip(sizes).map(|(k, (width, height))| {
         let (fields, samples) = frame(chance, width, height);
+        let fields = Fields { layout: fields.layout % 4 + 4 * (k % 2), ..fields };
         packet::bytes(&fields, &samples)
     });
-    packets.map(|packet| chance.after_older_bytes(&packet)).to_vec()
+    let packets: Vec<_> = packets.collect();
+    packets.iter().map(|packet| chance.after_older_bytes(packet)).collect()
 }
 
 /// Every turn, in range or not: packets of many sizes, and a store refused by each of the reader's questions.
@@ -193,37 +196,23 @@ fn repeats() {
         let (width, height) = chance.one_of(&[(3, 2), (4, 5), (2, 6)]);
         let (fields, mut samples) = frame(chance, width, height);
         let packet = packet::bytes(&fields, &samples);
-        let other_settings = packet::bytes(&Fields { rounds: 0, threshold: 4095, ..fields }, &samples);
-        let other_layout = packet::bytes(&Fields { layout: 3 - fields.layout, ..fields }, &samples);
+        let settings = packet::bytes(&Fields { rounds: 0, threshold: 4095, ..fields }, &samples);
+        let layout = packet::bytes(&Fields { layout: fields.layout ^ 3, ..fields }, &samples);
+        let level = packet::bytes(&Fields { layout: fields.layout ^ 4, ..fields }, &samples);
         let exchanged = packet::bytes(&Fields { width: height, height: width, ..fields }, &samples);
         samples[width * height - 1] ^= 1;
-        let other_sample = packet::bytes(&fields, &samples);
+        let sample = packet::bytes(&fields, &samples);
         let [refused, cut] = [[&packet[..], &[255]].concat(), packet[1..].to_vec()];
-        let older_too = [&other_sample[..], &packet].concat();
+        let older_too = [&sample[..], &packet].concat();
         let stores = [
-            &refused,
+            &refused, &packet, &packet, &settings, &refused, &older_too, &cut, &packet, &layout, &layout,
+            &packet, &exchanged, &exchanged, &packet, &sample, &packet, &packet, &older_too, &level, &level,
             &packet,
-            &packet,
-            &other_settings,
-            &refused,
-            &older_too,
-            &cut,
-            &packet,
-            &other_layout,
-            &other_layout,
-            &packet,
-            &exchanged,
-            &exchanged,
-            &packet,
-            &other_sample,
-            &packet,
-            &packet,
-            &older_too,
         ];
         let lines = compared("repeats", turn, stores.map(Clone::clone).to_vec());
         let skipped: Vec<usize> =
             (1..).zip(&lines).filter(|(_, l)| l.contains("repeats")).map(|(k, _)| k).collect();
-        let due: &[usize] = if turn < 8 { &[3, 4, 6, 8, 10, 13, 17, 18] } else { &[] };
+        let due: &[usize] = if turn < 8 { &[3, 4, 6, 8, 10, 13, 17, 18, 20] } else { &[] };
         assert_eq!(skipped, due, "turn {turn}");
     }
 }
@@ -319,8 +308,8 @@ fn at_every_standard() {
         let program = source.with_extension(format!("{}.bin", language.extension));
         for [compiler, standard] in language.compilers() {
             compile(&[compiler, standard, "-O2"], &source, &program);
-            let [sound, refused] = [chance.small_packet(), chance.bytes(20)];
-            let stores = vec![sound.clone(), sound, refused];
+            let [sound, other, refused] = [chance.small_packet(), chance.small_packet(), chance.bytes(20)];
+            let stores = vec![sound.clone(), sound, other, refused];
             compared_with(Command::new(&program), NONE, "at_every_standard", 6, stores);
         }
     }
@@ -391,25 +380,27 @@ static int taken;
 
 "#;
 
-/// A file takes seven blocks: its store, two mosaics, three planes and the work. Wherever they end, the program says so and
-/// leaves nothing behind.
+/// A file takes seven blocks: its store, two mosaics, three planes and the work; with two levels eight. Wherever they end,
+/// the program says so and leaves nothing behind.
 #[test]
 fn without_memory() {
     let program = compiled_behind("without_memory", FEW_BLOCKS_IN_C, &SANITIZERS);
-    let (directory, _) = directory("without_memory", vec![PRINTED.to_vec(), [&[1], &PRINTED[1..]].concat()]);
-    for blocks in 0..=14 {
+    let of_layout = |layout| [&PRINTED[..12], &[layout], &PRINTED[13..]].concat();
+    let (directory, _) = directory("without_memory", vec![of_layout(0), of_layout(4), of_layout(3)]);
+    for blocks in 0..=22 {
         let mut command = Command::new(&program);
         command.env("BLOCKS", blocks.to_string());
-        let output = run(command, &directory, &["0", "file 1", "file 2"]);
+        let output = run(command, &directory, &["0", "file 1", "file 2", "file 3"]);
         let [out, told] = [&output.stdout, &output.stderr].map(|text| String::from_utf8_lossy(text));
-        let due = match blocks {
-            0..7 => "panel: file 1: no memory\n",
-            7..14 => "panel: file 2: no memory\n",
-            _ => "",
+        let (due, lines) = match blocks {
+            0..7 => ("panel: file 1: no memory\n", 0),
+            7..15 => ("panel: file 2: no memory\n", 1),
+            15..22 => ("panel: file 3: no memory\n", 2),
+            _ => ("", 4),
         };
         assert_eq!(told, due, "{blocks} blocks");
-        assert_eq!(output.status.code(), Some(i32::from(blocks < 14)), "{blocks} blocks");
-        assert_eq!(out.lines().count(), [0, 1, 3][blocks / 7], "{blocks} blocks: {out}");
+        assert_eq!(output.status.code(), Some(i32::from(blocks < 22)), "{blocks} blocks");
+        assert_eq!(out.lines().count(), lines, "{blocks} blocks: {out}");
     }
 }
 

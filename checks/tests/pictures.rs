@@ -109,7 +109,7 @@ fn the_pictures_of_the_scene() {
 fn the_pictures_of_small_frames() {
     let chance = &mut Chance(0x9e37_79b9_7f4a_7c15);
     for (width, height) in [(2, 2), (3, 2), (2, 3), (3, 3), (5, 4), (8, 9), (31, 18), (2, 100), (257, 3)] {
-        for layout in 0..4 {
+        for layout in 0..8 {
             let fields = Fields { layout, ..chance.few_rounds(width, height) };
             let kinds = kinds(chance, width, height);
             let packet = packet::bytes(&fields, &kinds[chance.place(kinds.len())].1);
@@ -130,7 +130,10 @@ fn no_picture_of_a_refused_packet() {
     for (number, store) in stores {
         let (output, pictures) = pictured("refused", &store);
         let told = String::from_utf8_lossy(&output.stderr);
-        assert!(told.ends_with(&format!("refused: {number}, {}\n", refusal_text(number))), "{told:?}, {number}");
+        assert!(
+            told.ends_with(&format!("refused: {number}, {}\n", refusal_text(number))),
+            "{told:?}, {number}"
+        );
         assert_eq!((output.status.code(), &output.stdout[..]), (Some(1), &[][..]), "{number}");
         assert!(!pictures.iter().any(|picture| picture.exists()), "{number}");
     }

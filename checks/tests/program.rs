@@ -73,6 +73,9 @@ fn the_printed_packet() {
     assert_eq!(text(&PRINTED), due);
     assert_eq!(compared(&PRINTED, "printed"), 0);
     assert_eq!(compared(&[&[255; 77], &PRINTED[..]].concat(), "printed, after older bytes"), 0);
+    // 2 by 2 has no detail at the second level
+    let two_levels = [&PRINTED[..12], &[4], &PRINTED[13..]].concat();
+    assert_eq!((compared(&two_levels, "printed, two levels"), text(&two_levels)), (0, due.to_string()));
     let bytes: Vec<&[u8]> = PRINTED.chunks(1).collect();
     assert_eq!(compared_in_pieces(&bytes, "printed, byte by byte"), 0);
     for place in 0..=PRINTED.len() {
@@ -91,7 +94,7 @@ fn every_layout_of_many_sizes() {
         sizes.push((width, chance.between(2, (MOST_SAMPLES / width) as u64) as usize));
     }
     for (width, height) in sizes {
-        for layout in 0..4 {
+        for layout in 0..8 {
             let fields = Fields { layout, ..chance.few_rounds(width, height) };
             let packet = packet_of(chance, &fields);
             let store = chance.after_older_bytes(&packet);
@@ -111,9 +114,11 @@ fn every_number_of_rounds() {
         }
     }
     for (width, height) in [(32, 32), (512, 2), (2, 512), (27, 37)] {
-        let fields = Fields { width, height, rounds: 64, threshold: 300, ..chance.small_fields() };
-        let packet = packet_of(chance, &fields);
-        assert_eq!(compared(&packet, &format!("{fields:?}")), 0);
+        for layout in [chance.between(0, 3) as u32, chance.between(4, 7) as u32] {
+            let fields = Fields { width, height, layout, rounds: 64, threshold: 300 };
+            let packet = packet_of(chance, &fields);
+            assert_eq!(compared(&packet, &format!("{fields:?}")), 0);
+        }
     }
 }
 

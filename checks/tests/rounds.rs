@@ -1,14 +1,15 @@
 //! The C call `demosaic_rounds` answers what the reference answers, and leaves in every buffer, and beside it, what the
-//! reference leaves.
+//! reference leaves, with one level of the filter bank and with two.
 
+use checks::bank::Plane;
 use checks::chance::Chance;
 use checks::estimate::estimates_of;
-use checks::low_band::{at_every_place, weights};
-use checks::mosaic::{Colour, Mosaic};
+use checks::low_band::{at_every_place, mixed_sum, times, weights};
+use checks::mosaic::{has_two_levels, Colour, Mosaic};
 use checks::mosaics::{kinds, longer_lengths, spike, Kind, OF_TWO};
 use checks::packet::Fields;
-use checks::planes_call::{self, largest, settings, Call, PlanesCall, COLOURS};
-use checks::planes_call::{large_frames_refused, lengths_refused, samples_refused};
+use checks::planes_call::{self, largest, settings, Call, Planes, PlanesCall, COLOURS};
+use checks::planes_call::{large_frames_refused, lengths_refused, samples_refused, work_refused};
 use checks::refusals::{
     answered, refusals, Counts, FrameCall, NO_SAMPLE, SHAPES, TRIES, TRIES_IN_THE_LARGEST,
 };
@@ -23,11 +24,13 @@ struct Rounds;
 
 impl PlanesCall for Rounds {
     const NAME: &'static str = "rounds";
-    const QUESTIONS: &'static [u32] = &[1, 2, 3, 4, 5, 6, 7, 8, 9, 10];
-    const LIBRARY: Call =
-        |fields, mosaic, [red, green, blue], work| library::rounds(fields, mosaic, red, green, blue, work);
-    const REFERENCE: Call =
-        |fields, mosaic, [red, green, blue], work| rounds(fields, mosaic, red, green, blue, work);
+    const QUESTIONS: &'static [u32] = &[1, 2, 3, 4, 5, 6, 7, 8, 18, 9, 10];
+    const LIBRARY: Call = |fields, mosaic, [red, green, blue], work, wide_work| {
+        library::rounds(fields, mosaic, red, green, blue, work, wide_work)
+    };
+    const REFERENCE: Call = |fields, mosaic, [red, green, blue], work, wide_work| {
+        rounds(fields, mosaic, red, green, blue, work, wide_work)
+    };
 
     fn plane(chance: &mut Chance, count: usize) -> Vec<u16> {
         chance.samples(count)
@@ -35,6 +38,11 @@ impl PlanesCall for Rounds {
 }
 
 type Ask = planes_call::Ask<Rounds>;
+
+/// A layout with two levels.
+fn two_levels(chance: &mut Chance) -> u32 {
+    chance.between(4, 7) as u32
+}
 
 /// The mosaic with its estimates.
 fn estimated(fields: Fields, mosaic: &[u16]) -> Ask {
@@ -90,8 +98,8 @@ fn spikes(chance: &mut Chance, width: usize, height: usize) {
 fn opposites(chance: &mut Chance, width: usize, height: usize) {
     for (kind, green) in kinds(chance, width, height) {
         let fields = chance.few_rounds(width, height);
-        let opposite: Vec<u16> = green.iter().map(|sample| 4095 - sample).collect();
-        let ask = Ask::of(fields, &green, [opposite.clone(), green.clone(), opposite]);
+        let other = opposite(&green);
+        let ask = Ask::of(fields, &green, [other.clone(), green.clone(), other]);
         ask.accepted(&format!("mosaic and green {kind}, red and blue the opposite"));
     }
 }
@@ -101,7 +109,7 @@ fn every_small_size_with_every_setting() {
     let chance = &mut Chance(0x9e37_79b9_7f4a_7c15);
     for width in 2..=10 {
         for height in 2..=10 {
-            (0..4).for_each(|layout| all_settings(chance, width, height, layout));
+            (0..8).for_each(|layout| all_settings(chance, width, height, layout));
         }
     }
 }
@@ -118,6 +126,19 @@ fn every_small_size_with_every_kind() {
     }
 }
 
+/// The taps of two levels together reach nine places either way.
+#[test]
+fn larger_sizes_with_two_levels() {
+    let chance = &mut Chance(0xda3e_39cb_94b9_5bdb);
+    for (width, height) in (3..=21).flat_map(|width| (3..=21).map(move |height| (width, height))) {
+        let kinds = kinds(chance, width, height);
+        for kind in kinds.iter().skip(chance.place(9)).step_by(9) {
+            let fields = Fields { layout: two_levels(chance), ..chance.few_rounds(width, height) };
+            estimated_and_unrelated(chance, fields, kind, &kinds);
+        }
+    }
+}
+
 #[test]
 fn longer_lines() {
     let chance = &mut Chance(0x0123_4567_89ab_cdef);
@@ -125,6 +146,20 @@ fn longer_lines() {
         for other in [2, chance.between(3, 6) as usize] {
             all_kinds(chance, length, other);
             all_kinds(chance, other, length);
+        }
+    }
+}
+
+/// Lines of every length up to 300, and some up to the longest.
+#[test]
+fn lines_with_two_levels() {
+    let chance = &mut Chance(0x6c07_8965_3c6e_f372);
+    for length in (3..=300).chain((301..2047).step_by(13)).chain([2047, 2048]) {
+        let other = chance.one_of(&[2, 3, 3, 4, 5]);
+        for (width, height) in [(length, other), (other, length)] {
+            let ask = Ask::sound(chance, width, height);
+            Ask { fields: Fields { layout: two_levels(chance), rounds: 1, ..ask.fields }, ..ask }
+                .accepted("random");
         }
     }
 }
@@ -141,9 +176,11 @@ fn large_frames() {
             }
         }
     }
-    for (width, height, rounds) in [(2048, 2048, 1), (1025, 300, 2)] {
+    let sizes = [(2048, 2048, 1), (1025, 300, 2), (129, 511, 2), (1023, 33, 3)];
+    for ((width, height, rounds), layout) in sizes.into_iter().flat_map(|size| [(size, 1), (size, 6)]) {
         let ask = Ask::sound(chance, width, height);
-        Ask { fields: Fields { rounds, threshold: 20, ..ask.fields }, ..ask }.accepted("random");
+        let fields = Fields { layout, rounds, threshold: 20, ..ask.fields };
+        Ask::of(fields, &ask.mosaic, ask.planes).accepted("random");
     }
 }
 
@@ -163,35 +200,276 @@ fn many_rounds() {
 
 /// Green and the colours at the ends of their range, so that with T = 0 every value moves the sum at row i, column j
 /// towards this end: as far beyond what the clipping keeps as can be. The weights of green's values are those of the
-/// colour's with the other sign, and 1,024 more at the place itself.
-fn assert_clipped(side: usize, i: usize, j: usize, end: u16) {
+/// colour's with the other sign, and as many more at the place itself as the sum is times the paper's.
+fn assert_clipped_at(layout: u32, side: usize, i: usize, j: usize, end: u16) {
     let place = i * side + j;
-    let weights = weights(side, side, i, j);
-    let of_sign = |weight: i32| if weight < 0 { 4095 - end } else { end };
+    let two_levels = has_two_levels(layout);
+    let weights = weights(two_levels, side, side, i, j);
+    let of_sign = |weight: i64| if weight < 0 { 4095 - end } else { end };
     let coloured: Vec<u16> = weights.iter().map(|&weight| of_sign(weight)).collect();
     let mut green: Vec<u16> = weights.iter().map(|&weight| of_sign(-weight)).collect();
-    green[place] = of_sign(1024 - weights[place]);
+    green[place] = of_sign(times(two_levels) - weights[place]);
     let mosaic = vec![2000; side * side];
-    for layout in 0..4 {
-        let fields = Fields { width: side, height: side, layout, rounds: 1, threshold: 0 };
-        let ask = Ask::of(fields, &mosaic, [coloured.clone(), green.clone(), coloured.clone()]);
-        let [red, _, blue] = ask.accepted("the signs of the weights");
-        let mosaic = Mosaic { width: side, height: side, layout, samples: &mosaic };
-        let due = match mosaic.colour(i as i64, j as i64) {
-            Colour::Red => [2000, end],
-            Colour::Green => [end, end],
-            Colour::Blue => [end, 2000],
-        };
-        assert_eq!([red[place], blue[place]], due, "{side} by {side}, layout {layout}, row {i}, column {j}");
-    }
+    let fields = Fields { width: side, height: side, layout, rounds: 1, threshold: 0 };
+    let ask = Ask::of(fields, &mosaic, [coloured.clone(), green, coloured]);
+    let [red, _, blue] = ask.accepted("the signs of the weights");
+    let mosaic = Mosaic { width: side, height: side, layout, samples: &mosaic };
+    let due = match mosaic.colour(i as i64, j as i64) {
+        Colour::Red => [2000, end],
+        Colour::Green => [end, end],
+        Colour::Blue => [end, 2000],
+    };
+    assert_eq!([red[place], blue[place]], due, "{side} by {side}, layout {layout}, row {i}, column {j}");
+}
+
+fn assert_clipped(side: usize, i: usize, j: usize, end: u16) {
+    (0..8).for_each(|layout| assert_clipped_at(layout, side, i, j, end));
 }
 
 #[test]
 fn the_largest_sums() {
     at_every_place(assert_clipped);
+    // so large that no weight is reflected at the middle place
+    for (side, i, j) in [(19, 9, 9), (20, 10, 9), (21, 10, 11), (19, 0, 9), (20, 19, 19), (21, 3, 17)] {
+        assert_clipped(side, i, j, 4095);
+        assert_clipped(side, i, j, 0);
+    }
 }
 
-/// As document 01 writes it, after 0 to 3 rounds, and turned: so in every layout.
+/// Moves the plane's values, within a sample's range, so that their weighted sum grows by so much: the largest weights first.
+fn move_by(plane: &mut [u16], weights: &[i64], more: i64) {
+    let mut places: Vec<usize> = (0..plane.len()).filter(|&k| weights[k] != 0).collect();
+    places.sort_by_key(|&k| -weights[k].abs());
+    let mut rest = more;
+    for k in places {
+        let sample = i64::from(plane[k]);
+        let by = (rest / weights[k]).clamp(-sample, 4095 - sample);
+        plane[k] = (sample + by) as u16;
+        rest -= weights[k] * by;
+    }
+    assert_eq!(rest, 0, "the weights do not reach that far");
+}
+
+/// With T = 0, sums at a place that are a half, as little less as the weights allow, and as little more: a half goes up.
+fn assert_rounded(chance: &mut Chance, layout: u32, width: usize, height: usize, place: usize) {
+    let count = width * height;
+    let (i, j) = (place / width, place % width);
+    let two_levels = has_two_levels(layout);
+    let weights = weights(two_levels, width, height, i, j);
+    let least = weights.iter().map(|weight| weight.abs()).filter(|&weight| weight > 0).min().unwrap();
+    for (more, up) in [(-least, 0), (0, 1), (least, 1)] {
+        let [mut own, green] =
+            [(); 2].map(|_| (0..count).map(|_| chance.between(1500, 2500) as u16).collect::<Vec<_>>());
+        let sample = chance.between(1500, 2500) as u16;
+        let half = times(two_levels) * i64::from(sample) + times(two_levels) / 2;
+        let sum = mixed_sum(two_levels, width, height, place, &own, &green);
+        move_by(&mut own, &weights, half + more - sum);
+        let fields = Fields { width, height, layout, rounds: 1, threshold: 0 };
+        let ask = Ask::of(fields, &chance.samples(count), [own.clone(), green, own]);
+        let [red, _, blue] = ask.accepted("a sum at a half");
+        let colour = Mosaic { width, height, layout, samples: &[] }.colour(i as i64, j as i64);
+        let what = format!("{fields:?}, row {i}, column {j}, {more} from a half");
+        assert!(colour == Colour::Red || red[place] == sample + up, "red of {what}");
+        assert!(colour == Colour::Blue || blue[place] == sample + up, "blue of {what}");
+    }
+}
+
+/// From 20 places on, at least one of a place's weights along a line is not reflected onto another, or all are but the
+/// middle one.
+#[test]
+fn sums_at_a_half() {
+    let chance = &mut Chance(0x27d4_eb2f_1656_67c5);
+    for layout in (0..8).flat_map(|layout| [layout; 30]) {
+        let (width, height) = (chance.between(20, 28) as usize, chance.between(20, 28) as usize);
+        let count = width * height;
+        for place in [0, width - 1, count - 1, chance.place(count)] {
+            assert_rounded(chance, layout, width, height, place);
+        }
+    }
+}
+
+/// Black and white, each value with the sign that it has in the sum: no plane of samples makes it larger.
+fn with_the_signs_of(count: usize, sum: impl Fn(&[u16]) -> i64) -> Vec<u16> {
+    (0..count).map(|k| if sum(&spike(count, k, 4095, 0)) > 0 { 4095 } else { 0 }).collect()
+}
+
+fn opposite(plane: &[u16]) -> Vec<u16> {
+    plane.iter().map(|sample| 4095 - sample).collect()
+}
+
+/// The plane and green its opposite, and the other way round, with two levels and these thresholds.
+fn opposites_at_two_levels(width: usize, height: usize, plane: &[u16], thresholds: &[u32]) {
+    let other = opposite(plane);
+    for (layout, &threshold) in (4..8).flat_map(|layout| thresholds.iter().map(move |t| (layout, t))) {
+        let fields = Fields { width, height, layout, rounds: 1, threshold };
+        for [own, green] in [[plane, &other], [&other, plane]] {
+            let planes = [own, green, own].map(|plane| plane.to_vec());
+            Ask::of(fields, own, planes).accepted("opposites");
+        }
+    }
+}
+
+/// Small planes and larger ones, and some places of each.
+fn some_places() -> impl Iterator<Item = (usize, usize, usize)> {
+    let sizes = [(3, 2), (2, 19), (19, 2), (4, 5), (5, 5), (9, 9), (13, 8), (19, 19)];
+    sizes.into_iter().flat_map(|(width, height)| {
+        let count = width * height;
+        [0, width - 1, count / 2, count - 1].map(|place| (width, height, place))
+    })
+}
+
+/// The second level's bands of a plane.
+fn second_bands(width: usize, height: usize, plane: &[u16]) -> [Plane; 4] {
+    Plane::given(width, height, plane).split(1)[0].split(2)
+}
+
+/// What the second level hands to the first at a place, as large as samples make it.
+#[test]
+fn the_largest_sums_of_the_second_level() {
+    for (width, height, place) in some_places() {
+        let handed = |plane: &[u16]| {
+            let [band1, band2, band3, band4] = second_bands(width, height, plane);
+            Plane::join(2, [band1.times(0), band2, band3, band4]).values[place]
+        };
+        let plane = with_the_signs_of(width * height, handed);
+        opposites_at_two_levels(width, height, &plane, &[0, 1, 1000]);
+    }
+}
+
+/// A detail of the second level as far from green's as samples make it, and thresholds that hold it much, little and not.
+#[test]
+fn the_largest_details_of_the_second_level() {
+    for (width, height, place) in some_places() {
+        for band in 1..4 {
+            let detail = |plane: &[u16]| second_bands(width, height, plane)[band].values[place];
+            let plane = with_the_signs_of(width * height, detail);
+            let apart = detail(&plane) - detail(&opposite(&plane));
+            let reached = (apart / 256) as u32;
+            let less = [1000, 100, 10, 1, 0].map(|less| reached.saturating_sub(less));
+            opposites_at_two_levels(width, height, &plane, &less);
+            opposites_at_two_levels(width, height, &plane, &[reached + 1]);
+        }
+    }
+}
+
+/// Red and blue by hand, of planes that are alike: in one of the layouts each place keeps what the round makes of it. All
+/// else is the mosaic's 7.
+fn assert_by_hand(width: usize, height: usize, threshold: u32, own: &[u16], green: &[u16], due: &[u16]) {
+    let count = width * height;
+    for layout in 4..8 {
+        let fields = Fields { width, height, layout, rounds: 1, threshold };
+        let ask = Ask::of(fields, &vec![7; count], [own.to_vec(), green.to_vec(), own.to_vec()]);
+        let [red, _, blue] = ask.accepted("by hand");
+        let mosaic = Mosaic { width, height, layout, samples: &[] };
+        for (k, &due) in due.iter().enumerate() {
+            let colour = mosaic.colour((k / width) as i64, (k % width) as i64);
+            let due = [Colour::Red, Colour::Blue].map(|own| if colour == own { 7 } else { due });
+            assert_eq!([red[k], blue[k]], due, "{own:?}, {fields:?}, place {k}");
+        }
+    }
+}
+
+/// Three places along the rows, or along the columns, and the same in each other line: across, there is no detail. Green is
+/// 100. With T = 0 what is left is half the middle place and a quarter of each other, and a half goes up; for T = 1 see
+/// `projection.rs`; with the largest thresholds nothing is held, black beside white neither.
+#[test]
+fn three_places_by_hand() {
+    let cases = [
+        ([108, 100, 100], 0, [102, 102, 102]),
+        ([108, 100, 100], 1, [104, 101, 101]),
+        ([108, 100, 100], 4, [108, 100, 100]),
+        ([102, 100, 100], 0, [101, 101, 101]),
+        ([101, 100, 100], 0, [100, 100, 100]),
+        ([94, 100, 100], 0, [99, 99, 99]),
+        ([93, 100, 100], 0, [98, 98, 98]),
+        ([100, 103, 100], 0, [102, 102, 102]),
+        ([0, 4095, 0], 4095, [0, 4095, 0]),
+    ];
+    for (line, threshold, due) in cases {
+        for other in [2, 3, 4] {
+            let rows = |line: [u16; 3]| line.repeat(other);
+            let columns = |line: [u16; 3]| line.map(|value| vec![value; other]).concat();
+            let green = vec![100; 3 * other];
+            assert_by_hand(3, other, threshold, &rows(line), &green, &rows(due));
+            assert_by_hand(other, 3, threshold, &columns(line), &green, &columns(due));
+        }
+    }
+}
+
+/// Every threshold, with two levels.
+#[test]
+fn every_threshold_with_two_levels() {
+    let chance = &mut Chance(0x1405_7b7e_f767_814f);
+    for threshold in 0..=4095 {
+        let (width, height) = (chance.between(3, 11) as usize, chance.between(2, 11) as usize);
+        let ask = Ask::sound(chance, width, height);
+        let fields = Fields { layout: two_levels(chance), rounds: 1, threshold, ..ask.fields };
+        let few = ask.planes.each_ref().map(|plane| plane.iter().map(|s| s / 1365 * 1365).collect());
+        Ask { fields, planes: few, ..ask.clone() }.accepted("random among few");
+        Ask { fields, ..ask }.accepted("random");
+    }
+}
+
+/// A plane as far as T from green, and the observed samples in it: its details are at most 16·T, and 256·T, from green's, and
+/// no number of rounds changes it.
+#[test]
+fn planes_close_to_green_stay() {
+    let chance = &mut Chance(0x5851_f42d_4c95_7f2d);
+    for (width, height) in (2..=14).flat_map(|width| (2..=14).map(move |height| (width, height))) {
+        for layout in [two_levels(chance) - 4, two_levels(chance)] {
+            let threshold = chance.one_of(&[0, 1, 20, 300, 2047]);
+            let green = chance.samples(width * height);
+            let [red, blue] = [(); 2].map(|_| close(chance, &green, threshold));
+            let mosaic = Mosaic { width, height, layout, samples: &[] };
+            let observed = |k: usize| match mosaic.colour((k / width) as i64, (k % width) as i64) {
+                Colour::Red => red[k],
+                Colour::Green => green[k],
+                Colour::Blue => blue[k],
+            };
+            let samples: Vec<u16> = (0..width * height).map(observed).collect();
+            let rounds = chance.one_of(&[1, 2, 8]);
+            let fields = Fields { width, height, layout, rounds, threshold: threshold.into() };
+            let planes = [red, green, blue];
+            assert!(Ask::of(fields, &samples, planes.clone()).accepted("close") == planes, "{fields:?}");
+        }
+    }
+}
+
+/// A plane as far as this from green, often at the ends.
+fn close(chance: &mut Chance, green: &[u16], far: u16) -> Vec<u16> {
+    let near = |&sample: &u16| {
+        let within = chance.within(far.into());
+        let far = i32::from(far);
+        (i32::from(sample) + chance.one_of(&[far, -far, within])).clamp(0, 4095) as u16
+    };
+    green.iter().map(near).collect()
+}
+
+/// The planes of a turned mosaic and turned planes are the planes turned, with two levels.
+#[test]
+fn turned_with_two_levels() {
+    let chance = &mut Chance(0xfedc_ba98_7654_3210);
+    let small = (2..=12).flat_map(|width| (2..=12).map(move |height| (width, height)));
+    for (width, height) in small.chain([(37, 29), (64, 9), (9, 64), (127, 130), (2, 2048)]) {
+        let ask = Ask::sound(chance, width, height);
+        let fields = Fields { layout: two_levels(chance), ..ask.fields };
+        let framed = |samples| Frame { width, height, layout: fields.layout, samples };
+        let after = Ask { fields, ..ask.clone() }.accepted("not turned").map(framed);
+        let [mosaic, planes @ ..] =
+            [&ask.mosaic, &ask.planes[0], &ask.planes[1], &ask.planes[2]].map(|plane| framed(plane.clone()));
+        for turn in 0..8 {
+            let Frame { width, height, layout, samples } = mosaic.turned(turn);
+            assert!(has_two_levels(layout), "turn {turn} of {fields:?}");
+            let turned: Planes = planes.each_ref().map(|plane| plane.turned(turn).samples);
+            let found =
+                Ask::of(Fields { width, height, layout, ..fields }, &samples, turned).compared("turned");
+            let due = after.each_ref().map(|plane| plane.turned(turn).samples);
+            assert!(found == (0, due), "turn {turn} of {fields:?}");
+        }
+    }
+}
+
+/// As document 01 writes it, after 0 to 3 rounds, and turned: so in every layout. 2 by 2 has no detail at the second level.
 #[test]
 fn case_k() {
     let framed = |samples: [u16; 4]| Frame { width: 2, height: 2, layout: 0, samples: samples.to_vec() };
@@ -206,11 +484,13 @@ fn case_k() {
     for (rounds, due) in (0..).zip(due) {
         for turn in 0..8 {
             let turned = mosaic.turned(turn);
-            let fields = Fields { width: 2, height: 2, layout: turned.layout, rounds, threshold: 0 };
-            let planes = planes.each_ref().map(|plane| plane.turned(turn).samples);
-            let [red, _, blue] = Ask::of(fields, &turned.samples, planes).accepted("case k");
             let due = due.map(|plane| framed(plane).turned(turn).samples);
-            assert_eq!([red, blue], due, "{rounds} rounds, turn {turn}");
+            for layout in [turned.layout, turned.layout + 4] {
+                let fields = Fields { width: 2, height: 2, layout, rounds, threshold: 0 };
+                let planes = planes.each_ref().map(|plane| plane.turned(turn).samples);
+                let [red, _, blue] = Ask::of(fields, &turned.samples, planes).accepted("case k");
+                assert_eq!([&red, &blue], due.each_ref(), "{fields:?}, turn {turn}");
+            }
         }
     }
 }
@@ -222,14 +502,14 @@ fn case_k() {
 fn every_threshold_by_hand() {
     for threshold in 0..=4095_u16 {
         for of_two in OF_TWO {
-            let layout = u32::from(threshold % 4);
+            let layout = u32::from(threshold % 8);
             let fields = Fields { width: 2, height: 2, layout, rounds: 1, threshold: threshold.into() };
             let planes = [of_two(0, 4095), of_two(4095, 0), of_two(0, 4095)].map(|plane| plane.to_vec());
             let [red, _, blue] = Ask::of(fields, &[7; 4], planes).accepted("opposites");
             let mut due = [of_two(4095 - threshold, threshold); 2];
-            // red sits at the place of the layout's number, blue at the opposite one
-            due[0][layout as usize] = 7;
-            due[1][3 - layout as usize] = 7;
+            // red sits at the place of the layout's number, less 4 with two levels, blue at the opposite one
+            due[0][layout as usize % 4] = 7;
+            due[1][3 - layout as usize % 4] = 7;
             assert_eq!([red, blue], due, "{fields:?}");
         }
     }
@@ -258,7 +538,7 @@ fn planes_refused(chance: &mut Chance, counts: &mut Counts) {
 
 /// Question 10 in the largest frames.
 fn planes_of_large_frames_refused(counts: &mut Counts) {
-    let mut ask: Ask = largest();
+    let mut ask: Ask = largest(4);
     for (plane, (place, value)) in TRIES_IN_THE_LARGEST.into_iter().enumerate() {
         ask.planes[plane][place] = value;
         answered(&ask, 10, &format!("{}, {value} at place {place}", COLOURS[plane]), counts);
@@ -270,6 +550,7 @@ fn planes_of_large_frames_refused(counts: &mut Counts) {
 fn refused() {
     refusals::<Ask>(|chance, counts| {
         lengths_refused::<Rounds>(chance, counts);
+        work_refused::<Rounds>(chance, counts);
         samples_refused::<Rounds>(chance, counts);
         planes_refused(chance, counts);
         large_frames_refused::<Rounds>(counts);

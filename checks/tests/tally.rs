@@ -16,7 +16,7 @@ type Finishing = (u32, u32);
 /// Accepted or refused by chance. Only an accepted call has 64 rounds or less for sure.
 fn random_call(chance: &mut Chance) -> Finishing {
     let accepted = (0, chance.between(0, 64) as u32);
-    let refused = (chance.between(1, 17) as u32, chance.between(0, u32::MAX.into()) as u32);
+    let refused = (chance.between(1, 18) as u32, chance.between(0, u32::MAX.into()) as u32);
     chance.one_of(&[accepted, accepted, refused])
 }
 
@@ -49,7 +49,7 @@ fn at_borders() {
         for rounds in 0..=64 {
             compared(before, (0, rounds));
         }
-        for number in 1..=17 {
+        for number in 1..=18 {
             compared(before, (number, 64));
         }
     }
@@ -149,10 +149,13 @@ fn of_finishing_calls() {
         let fields = Fields { rounds, ..fields };
         let mut mosaic = chance.samples(fields.width * fields.height);
         *chance.one_in(&mut mosaic) = chance.one_of(&[0, 4095, 4095, 4096]);
+        // one number less is refused with two levels
+        let wide = 8 * mosaic.len() - chance.place(2);
         let [number, due] = [library::finish, finish].map(|call| {
             let mut planes = [(); 3].map(|_| vec![0; mosaic.len()]);
             let lent = planes.each_mut().map(|plane| &mut plane[..]);
-            call(&fields, &mosaic, lent, &mut vec![0; 8 * mosaic.len()]).err().unwrap_or(0)
+            let (mut work, mut wide_work) = (vec![0; 8 * mosaic.len()], vec![0; wide]);
+            call(&fields, &mosaic, lent, &mut work, &mut wide_work).err().unwrap_or(0)
         });
         tally = library::next_tally(tally, number, rounds);
         history.push((due, rounds));

@@ -147,7 +147,7 @@ impl FrameCall for Shape {
     const QUESTIONS: &'static [u32] = &[16, 1, 2, 3];
 
     fn sound(chance: &mut Chance, width: usize, height: usize) -> Shape {
-        let (turn, layout) = (chance.between(0, 7) as u32, chance.between(0, 3) as u32);
+        let (turn, layout) = (chance.between(0, 7) as u32, chance.layout());
         Shape { turn, width, height, layout }
     }
 
@@ -177,7 +177,7 @@ impl FrameCall for Shape {
 
 /// A frame of any 16-bit samples.
 fn random(chance: &mut Chance, width: usize, height: usize) -> Frame {
-    let layout = chance.between(0, 3) as u32;
+    let layout = chance.layout();
     Frame { width, height, layout, samples: chance.any_samples(width * height) }
 }
 
@@ -186,6 +186,7 @@ fn turned(turn: u32, frame: &Frame, kind: &str) -> Frame {
     let turned = Turning::of(turn, frame).compared(kind).unwrap();
     let shape = Shape::of(turn, frame).compared(kind);
     assert_eq!(shape, Ok((turned.width, turned.height, turned.layout)), "turn {turn}, {kind}");
+    assert_eq!(turned.layout / 4, frame.layout / 4, "turn {turn} keeps the 4, {kind}");
     turned
 }
 
@@ -231,8 +232,8 @@ fn small_sizes() -> impl Iterator<Item = (usize, usize)> {
 fn every_small_size() {
     let chance = &mut Chance(0x9e37_79b9_7f4a_7c15);
     for (width, height) in small_sizes() {
-        for (layout, turn) in (0..4).flat_map(|layout| (0..8).map(move |turn| (layout, turn))) {
-            for _ in 0..3 {
+        for (layout, turn) in (0..8).flat_map(|layout| (0..8).map(move |turn| (layout, turn))) {
+            for _ in 0..2 {
                 let frame = Frame { layout, ..random(chance, width, height) };
                 turned(turn, &frame, "random");
             }
@@ -258,7 +259,7 @@ fn longer_lines() {
 #[test]
 fn every_sample() {
     for (width, height) in [(256, 256), (2048, 32), (32, 2048)] {
-        for (turn, layout) in (0..8).zip([0, 1, 2, 3, 0, 1, 2, 3]) {
+        for (turn, layout) in (0..8).zip([0, 5, 2, 7, 4, 1, 6, 3]) {
             let frame = Frame { width, height, layout, samples: (0..=65_535).collect() };
             turned(turn, &frame, "every sample");
         }
@@ -289,7 +290,7 @@ fn every_turn_with_every_layout() {
         for (turn, layout) in any_two() {
             let due = if turn > 7 {
                 16
-            } else if layout > 3 {
+            } else if layout > 7 {
                 3
             } else {
                 0

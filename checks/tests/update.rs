@@ -76,10 +76,11 @@ fn estimated_green(width: usize, height: usize, layout: u32, mosaic: &[u16]) -> 
     green
 }
 
-/// Mosaics of every kind: with the estimate of green, and with two greens of a kind by chance.
+/// Mosaics of every kind: with the estimate of green, and with two greens of a kind by chance. The layout is of either level.
 fn all_kinds(chance: &mut Chance, width: usize, height: usize, layout: u32) {
     let greens = kinds(chance, width, height);
     for (kind, mosaic) in kinds(chance, width, height) {
+        let layout = chance.one_of(&[layout, layout ^ 4]);
         let green = estimated_green(width, height, layout, &mosaic);
         accepted(&Ask::of(width, height, layout, &mosaic, &green), &format!("{kind}, its estimate"));
         for _ in 0..2 {
@@ -110,7 +111,7 @@ fn every_small_size() {
     for width in 2..=12 {
         for height in 2..=12 {
             (0..4).for_each(|layout| all_kinds(chance, width, height, layout));
-            spikes(width, height, chance.between(0, 3) as u32);
+            spikes(width, height, chance.layout());
         }
     }
 }
@@ -120,7 +121,7 @@ fn longer_lines() {
     let chance = &mut Chance(0x0123_4567_89ab_cdef);
     for length in longer_lengths() {
         for other in [2, 3, 6] {
-            let [one, another] = [(); 2].map(|_| chance.between(0, 3) as u32);
+            let [one, another] = [(); 2].map(|_| chance.layout());
             all_kinds(chance, length, other, one);
             all_kinds(chance, other, length, another);
         }
@@ -149,12 +150,12 @@ fn large_frames() {
 /// of green's with the other sign, and 1,024 more at the place itself.
 fn assert_clipped(side: usize, i: usize, j: usize, end: u16) {
     let width = 2 * side;
-    let weights = weights(side, side, i, j);
+    let weights = weights(false, side, side, i, j);
     let of_sign = |weight| if weight < 0 { 4095 - end } else { end };
     // the four places of a small row and column hold the same
     let green = filled(width, width, |row, column| of_sign(weights[row / 2 * side + column / 2]));
     let mosaic: Vec<u16> = green.iter().map(|value| 4095 - value).collect();
-    for layout in 0..4 {
+    for layout in 0..8 {
         let found = accepted(&Ask::of(width, width, layout, &mosaic, &green), "the signs of the weights");
         let found = [0, 1, width, width + 1].map(|k| found[2 * i * width + 2 * j + k]);
         assert_eq!(found, [end; 4], "{width} by {width}, layout {layout}, row {i}, column {j}");
@@ -175,9 +176,10 @@ fn the_detail_of_case_d() {
     for (green, less, more) in cases {
         let first = [5, green, 6, green, 7, green, 50, 8, 50, 9, 50, 10];
         let due = [5, less, 6, more, 7, less, 50, 8, 50, 9, 50, 10];
-        assert_eq!(accepted(&Ask::of(6, 2, 2, &mosaic, &first), "case d"), due);
         // the same with red and blue exchanged
-        assert_eq!(accepted(&Ask::of(6, 2, 1, &mosaic, &first), "case d"), due);
+        for layout in [2, 1, 6, 5] {
+            assert_eq!(accepted(&Ask::of(6, 2, layout, &mosaic, &first), "case d"), due);
+        }
     }
 }
 
@@ -252,7 +254,7 @@ impl FrameCall for Ask {
     const QUESTIONS: &'static [u32] = &[1, 2, 3, 6, 8, 9, 10];
 
     fn sound(chance: &mut Chance, width: usize, height: usize) -> Self {
-        let layout = chance.between(0, 3) as u32;
+        let layout = chance.layout();
         let (mosaic, green) = (chance.samples(width * height), chance.samples(width * height));
         Ask::of(width, height, layout, &mosaic, &green)
     }

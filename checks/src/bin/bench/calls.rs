@@ -3,14 +3,17 @@
 use crate::library;
 use checks::packet::Fields;
 
+/// The rounds call: the fields, the mosaic, red, green, blue and both work buffers.
+type Rounds = fn(&Fields, &[u16], &mut [u16], &[u16], &mut [u16], &mut [i32], &mut [i64]) -> Result<(), u32>;
+
 /// One program's calls.
 pub struct Calls {
     pub split: fn(usize, usize, &[i32], [&mut [i32]; 4]) -> Result<(), u32>,
     pub join: fn(usize, usize, [&[i32]; 4], &mut [i32]) -> Result<(), u32>,
     pub estimate: fn(usize, usize, u32, &[u16], [&mut [u16]; 3]) -> Result<(), u32>,
     pub update: fn(usize, usize, u32, &[u16], &mut [u16], &mut [i32]) -> Result<(), u32>,
-    pub rounds: fn(&Fields, &[u16], &mut [u16], &[u16], &mut [u16], &mut [i32]) -> Result<(), u32>,
-    pub finish: fn(&Fields, &[u16], [&mut [u16]; 3], &mut [i32]) -> Result<(), u32>,
+    pub rounds: Rounds,
+    pub finish: fn(&Fields, &[u16], [&mut [u16]; 3], &mut [i32], &mut [i64]) -> Result<(), u32>,
 }
 
 /// The library's, clang's and gcc's.

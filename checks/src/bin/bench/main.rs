@@ -6,6 +6,7 @@
 use bank::Bank;
 use calls::PROGRAMS;
 use checks::chance::Chance;
+use checks::mosaic::has_two_levels;
 use clock::least_times;
 use frame::Frame;
 use picture::picture;
@@ -20,8 +21,15 @@ mod library;
 mod picture;
 mod table;
 
-/// The rounds and thresholds that finishing is timed with. Without rounds the threshold has nothing to do.
-const FINISHED: [(u32, u32); 5] = [(0, 20), (8, 0), (8, 20), (64, 0), (64, 20)];
+/// The rounds and thresholds that finishing is timed with. Without rounds the threshold has nothing to do. Two levels settle
+/// in fewer rounds.
+fn finished(layout: u32) -> &'static [(u32, u32)] {
+    if has_two_levels(layout) {
+        &[(0, 20), (4, 0), (4, 20), (64, 20)]
+    } else {
+        &[(0, 20), (8, 0), (8, 20), (64, 0), (64, 20)]
+    }
+}
 
 /// A round's time is that of so many rounds less that of one: what a call does once does not count in it.
 const MORE: u32 = 5;
@@ -34,7 +42,7 @@ fn check_small(chance: &mut Chance) {
         bank.check_refused();
     }
     for (width, height) in [(2, 2), (3, 2), (2, 5), (4, 7), (5, 5), (9, 6), (37, 29)] {
-        for layout in 0..4 {
+        for layout in 0..8 {
             let mosaics = [picture(chance, width, height, layout), chance.samples(width * height)];
             for mosaic in mosaics {
                 let mut frame = Frame::new(width, height, layout, mosaic);
@@ -60,21 +68,32 @@ fn time_bank(table: &mut Table, side: usize, samples: &[u16]) {
     table.add("join", side, least_times(PROGRAMS, |calls| bank.join(calls)));
 }
 
-fn time_frame(table: &mut Table, side: usize, mosaic: Vec<u16>) {
-    let mut frame = Frame::new(side, side, 0, mosaic);
-    frame.check();
-    table.add("estimate", side, least_times(PROGRAMS, |calls| frame.estimate(calls)));
-    table.add("update", side, least_times(PROGRAMS, |calls| frame.update(calls)));
+/// The rounds and finishing, which the layout's levels count for.
+fn time_rounds(table: &mut Table, frame: &mut Frame) {
+    let side = frame.width;
+    let levels = if has_two_levels(frame.layout) { " at two levels" } else { "" };
     for threshold in [0, 20] {
-        table.add(&format!("a round, T = {threshold}"), side, round_times(&mut frame, threshold));
+        let call = format!("a round{levels}, T = {threshold}");
+        table.add(&call, side, round_times(frame, threshold));
     }
-    for (rounds, threshold) in FINISHED {
+    for &(rounds, threshold) in finished(frame.layout) {
         let call = match rounds {
-            0 => "finishing, 0 rounds".to_string(),
-            _ => format!("finishing, {rounds} rounds, T = {threshold}"),
+            0 => format!("finishing{levels}, 0 rounds"),
+            _ => format!("finishing{levels}, {rounds} rounds, T = {threshold}"),
         };
         table.add(&call, side, least_times(PROGRAMS, |calls| frame.finish(calls, rounds, threshold)));
     }
+}
+
+fn time_frame(table: &mut Table, side: usize, mosaic: Vec<u16>) {
+    let mut frame = Frame::new(side, side, 0, mosaic.clone());
+    frame.check();
+    table.add("estimate", side, least_times(PROGRAMS, |calls| frame.estimate(calls)));
+    table.add("update", side, least_times(PROGRAMS, |calls| frame.update(calls)));
+    time_rounds(table, &mut frame);
+    let mut frame = Frame::new(side, side, 4, mosaic);
+    frame.check();
+    time_rounds(table, &mut frame);
 }
 
 fn main() {
