@@ -1,16 +1,18 @@
--- The first estimates commute with every turn. Assumes nothing.
+-- The first estimates commute with every turn, and do not see the level. Assumes nothing.
 use mathlib.Core.Path.{_≡_, refl, sym, _∙_, ap}
 use mathlib.Core.Bool.{Bool, true, false, not, cond}
 use mathlib.Core.List.{[], _∷_}
-use Prim.Native.Nat.{ℕ, _+_, _<_}
+use Prim.Native.Nat.{ℕ, _+_, _%_, _<_}
 use native.Mathlib.Omega.{arith}
-use lib.Dec.{T, ltb, ltb→lt}
+use lib.Dec.{T, ltb, eqb, ltb→lt}
 use lib.IntN.{ℤ, pos, negsuc, negℤ, natAbs, _+ℤ_, _-ℤ_, _*ℤ_, +ℤ-comm}
 use Rattle.integers.specs.Numbers.{rounded, clamp}
 use Rattle.integers.proofs.Linear.{linear, atom, x₀, x₁, x₂, x₃, neg, _⊕_, _⊖_, _⊛_}
 use Rattle.integers.proofs.Bounds.{abs-neg}
-use Rattle.planes.specs.Layout.{by-parity}
-use Rattle.turns.specs.Operations.{Around}
+use Rattle.border.specs.Border.{reflect}
+use Rattle.planes.specs.Layout.{on-red-row, on-red-column, by-parity}
+use Rattle.planes.proofs.Layouts.{row-less, column-less}
+use Rattle.turns.specs.Operations.{Around, nearby}
 use Rattle.turns.specs.Pictures.{Picture, turned, _≈_}
 use Rattle.turns.proofs.Commuting.{Commutes, same, nearby-commutes, apply, apply-turned}
 use Rattle.neighbourhood.specs.Place.{row-of, column-of, greens, two-away, gradient, along-line, along-both, eight-greens, hamilton-adams, green-at, of-two, of-four, bilinear}
@@ -120,3 +122,8 @@ estimate-commutes top =
 -- the estimates of a turned mosaic are the turned estimates
 pub estimate-turned : (top t : ℕ) (p : Picture ℕ) → apply (estimate top) (turned t p) ≈ turned t (apply (estimate top) p)
 estimate-turned top t p = apply-turned (estimate-commutes top) t p
+
+-- the estimates with two levels are those with one
+pub estimate-less : (top w h l : ℕ) (p : ℕ → ℕ → ℕ) → estimate top w h (4 + l) p ≡ estimate top w h l p
+unfolding estimate nearby on-red-row on-red-column
+estimate-less top w h l p = λ m r c. estimate-at top (eqb (r % 2) (row-less l m)) (eqb (c % 2) (column-less l m)) (λ i j. p (reflect h (pos r +ℤ i)) (reflect w (pos c +ℤ j)))

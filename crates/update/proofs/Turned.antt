@@ -1,17 +1,18 @@
--- The green update commutes with every turn. Assumes nothing.
+-- The green update commutes with every turn, and does not see the level. Assumes nothing.
 use mathlib.Core.Path.{_≡_, refl, sym, _∙_, ap}
 use mathlib.Core.Bool.{Bool, true, false, cond}
 use Prim.Native.Nat.{ℕ, _+_, _*_, _-_, _/_, _%_}
 use native.Mathlib.Omega.{arith}
 use lib.IntN.{ℤ, pos, natAbs}
 use Rattle.planes.specs.Planes.{Agree}
+use Rattle.planes.proofs.Layouts.{row-less, column-less}
 use Rattle.planes.specs.Places.{half}
 use Rattle.planes.proofs.Places.{second-inside, small-inside}
 use Rattle.turns.specs.Operations.{Operation}
 use Rattle.turns.specs.Pictures.{Picture, turned, _≈_}
 use Rattle.turns.proofs.Commuting.{Commutes, same, composed, paired, pointwise, by-parities, commutes-by, apply, apply-turned}
 use Rattle.projection.proofs.Projection.{projected-commutes}
-use Rattle.update.specs.Update.{small-plane, mixed, update}
+use Rattle.update.specs.Update.{small-plane, mixed, put-mixed, update}
 use Rattle.update.proofs.Mixing.{mixed-projected, places-mirror, small-mirror, place-mirror, own-mixed, both-or-neither, update-place}
 
 -- ---- an operation on small planes, which asks for no layout, at every place on the small plane of the places with its parities
@@ -68,3 +69,15 @@ update-agrees top = update-commutes top .agrees
 -- updating a turned picture is turning the updated one
 pub update-turned : (top t : ℕ) (p : Picture (ℕ × ℕ)) → apply (update top) (turned t p) ≈ turned t (apply (update top) p)
 update-turned top = apply-turned (update-commutes top)
+
+-- "the green update stays one-level": with two levels it is the same
+pub update-less : (top w h l : ℕ) (p : ℕ → ℕ → ℕ × ℕ) → update top w h (4 + l) p ≡ update top w h l p
+unfolding update
+update-less top w h l p =
+    λ m. put-mixed top w h (row-less l m) (column-less l m) mosaic green (put-mixed top w h (1 - row-less l m) (1 - column-less l m) mosaic green green)
+  where
+    mosaic : ℕ → ℕ → ℕ
+    mosaic i j = p i j .0
+
+    green : ℕ → ℕ → ℕ
+    green i j = p i j .1
