@@ -38,6 +38,11 @@ fn sufficient(size: Size, settings: Settings) -> Example {
     example(size[0] * size[1], size, settings)
 }
 
+/// How many of the numbers are this one.
+fn count<T: PartialEq>(value: T, numbers: &[T]) -> usize {
+    numbers.iter().filter(|&number| *number == value).count()
+}
+
 /// What a finishing answers, 0 for accepted, and leaves of planes that held `before` and of work buffers that held 5: of these
 /// how many zeros and how many fives the first has, and then the wide one.
 fn finished(fields: &Fields, mosaic: &[u16], e: &Example, before: u16) -> (u32, [Vec<u16>; 3], [usize; 4]) {
@@ -45,9 +50,7 @@ fn finished(fields: &Fields, mosaic: &[u16], e: &Example, before: u16) -> (u32, 
     let (mut work, mut wide) = (vec![5; e.work], vec![5; e.wide]);
     let lent = planes.each_mut().map(|plane| &mut plane[..]);
     let number = finish(fields, mosaic, lent, &mut work, &mut wide).err().unwrap_or(0);
-    let of_work = |value| work.iter().filter(|&&left| left == value).count();
-    let of_wide = |value| wide.iter().filter(|&&left| left == value).count();
-    (number, planes, [of_work(0), of_work(5), of_wide(0), of_wide(5)])
+    (number, planes, [count(0, &work), count(5, &work), count(0, &wide), count(5, &wide)])
 }
 
 /// Demand 3's list of turning calls, from the one mosaic into the other and back. Hands back the fields of what stands after

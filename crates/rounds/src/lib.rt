@@ -1,4 +1,4 @@
-// Document 01's rounds.
+// Document 01's rounds, at one level of the bank or, as document 02 has them, at two.
 use questions::Answer;
 use questions::Settings;
 use working_plane::Colour;

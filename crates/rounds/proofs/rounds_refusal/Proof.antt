@@ -1,4 +1,4 @@
--- `rounds::rounds_refusal` meets its contract: 1 to 9, and then 10.
+-- `rounds::rounds_refusal` meets its contract: 1 to 9, with 18 after 8, and then 10.
 -- Assumes nothing.
 use mathlib.Core.Path.{_∙_, ap}
 use Prim.Native.Nat.{ℕ}

@@ -3,7 +3,9 @@
 use mathlib.Core.Path.{_≡_, refl, sym, _∙_, ap, subst}
 use mathlib.Core.Bool.{true}
 use Prim.Native.Nat.{ℕ, _+_, _*_, _-_, _≤_, _<_}
+use native.Mathlib.Nat.{mul-le-mul}
 use native.Mathlib.Omega.{arith}
+use lib.Dec.{T, leb, leb→le}
 use lib.IntN.{ℤ, pos, natAbs, _*ℤ_}
 use lib.ListN.{getD, length}
 use denote.Ref.{now}
@@ -11,7 +13,7 @@ use mir.Syntax.{w32}
 use mir.Val.{toZ, ofZ}
 use mir.Facts.{toZ-pos, toZ-ofZ as back}
 use borrow.Author.Needs.{needs}
-use Rattle.integers.proofs.Bounds.{read-is, read-bound, bounds, fits}
+use Rattle.integers.proofs.Bounds.{read-is, read-bound, fits-abs, bounds, fits}
 use Rattle.planes.specs.Planes.{plane-of}
 use Rattle.filters.specs.Bank.{Distance}
 use Rattle.projection.specs.Projection.{limits-of}
@@ -121,13 +123,23 @@ turn c = c .before .before .before .before .before .before .before .before .befo
 top-reads : {top : ℕ} → top ≤ 65535 → toZ w32 top ≡ pos top
 top-reads h = toZ-pos w32 (omega (arith, h))
 
-limit-small : {threshold : ℕ} → threshold ≤ 65535 → 256 * threshold ≤ 1073741824
-limit-small h = omega (arith, h)
-
 -- the second limit
 second-limit : (c : tie.After-widened Inv-loop μ-loop) → toZ w32 (ofZ w32 (pos 256 *ℤ toZ w32 (ofZ w32 (c .widened .result)))) ≡ limits-of (c .before .before .before .before .args .colour .threshold) .second
 unfolding limits-of
 second-limit c = back (let b = small c in fits (search bounds depth 14) tt) ∙ ap (λ (z : ℤ). pos 256 *ℤ z) (read c)
+
+-- as many times the threshold, up to 256, as a limit
+times-distance : (n : ℕ) → T (leb n 256) → (c : tie.After-widened Inv-loop μ-loop) → Distance (toZ w32 (ofZ w32 (pos n *ℤ toZ w32 (ofZ w32 (c .widened .result)))))
+times-distance n few c = subst Distance (sym reads) (record { sign = tt; small = omega (arith, product) })
+  where
+    threshold : ℕ
+    threshold = c .before .before .before .before .args .colour .threshold
+
+    product : n * threshold ≤ 256 * 65535
+    product = mul-le-mul (leb→le n 256 few) (threshold-small (c .before .before .before .before))
+
+    reads : toZ w32 (ofZ w32 (pos n *ℤ toZ w32 (ofZ w32 (c .widened .result)))) ≡ pos (n * threshold)
+    reads = ap (λ (z : ℤ). toZ w32 (ofZ w32 (pos n *ℤ z))) (read c) ∙ back (fits-abs w32 (pos (n * threshold)) (omega (arith, product)))
 
 -- a ring, or a line, of as many places has room for as many rows of as many places
 ring-room : (n : ℕ) {w w' a b : ℕ} → w' ≡ w → a ≡ b → n * w ≤ b → n * w' ≤ a
@@ -146,7 +158,7 @@ project-rows-requires c κs =
     let r = s .pre .1 in (
       (
         colour-projectable (a .colour) (now (a .mosaic)) (now (a .green)) (l .loop .work) (l .before .before .given-of .ensures) (threshold-small s) (workable l) (narrow l) (green-small (l .before .before .before)),
-        subst Distance (sym (second-limit (l .before))) (unfold limits-of in (record { sign = tt; small = limit-small (threshold-small s) })),
+        times-distance _ tt (l .before),
       ),
       (
         (ring-room 3 w (i .3) (r .0 .0), ring-room 5 w (i .4) (r .0 .1), ring-room 7 w (i .5) (r .0 .2), ring-room 7 w (i .6) (r .0 .3), ring-room 9 w (i .7) (r .0 .4), ring-room 9 w (i .8) (r .0 .5)),
