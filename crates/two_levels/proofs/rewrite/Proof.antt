@@ -3,7 +3,9 @@
 use mathlib.Core.Path.{refl}
 use mathlib.Core.Bool.{true}
 use Prim.Native.Nat.{ℕ, _+_, _*_, _≤_}
+use native.Mathlib.Nat.{le-refl, mul-le-mul}
 use native.Mathlib.Omega.{arith}
+use lib.Dec.{T, leb, leb→le}
 use lib.ListN.{getD, length}
 use denote.Ref.{now}
 use borrow.Author.Needs.{needs}
@@ -31,21 +33,12 @@ top-small s = omega (arith, s .good .1 .0)
 room : (s : tie.Start) → s .args .colour .width * s .args .colour .height ≤ length (now (s .args .work))
 room s = omega (arith, s .pre .0 .work)
 
--- the rings and lines are long enough
-rows-3 : {w : ℕ} → w ≤ 2048 → 3 * w ≤ 6264
-rows-3 h = omega (arith, h)
+-- a ring of m numbers is long enough for n rows, and a line of m for one with 8 places beside it
+rows : (n m : ℕ) → T (leb (n * 2048) m) → {w : ℕ} → w ≤ 2048 → n * w ≤ m
+rows n m t h = omega (arith, mul-le-mul (le-refl n) h, leb→le (n * 2048) m t)
 
-rows-5 : {w : ℕ} → w ≤ 2048 → 5 * w ≤ 10360
-rows-5 h = omega (arith, h)
-
-rows-7 : {w : ℕ} → w ≤ 2048 → 7 * w ≤ 14456
-rows-7 h = omega (arith, h)
-
-rows-9 : {w : ℕ} → w ≤ 2048 → 9 * w ≤ 18552
-rows-9 h = omega (arith, h)
-
-line : {w : ℕ} → w ≤ 2048 → w + 8 ≤ 2168
-line h = omega (arith, h)
+line : (m : ℕ) → T (leb 2056 m) → {w : ℕ} → w ≤ 2048 → w + 8 ≤ m
+line m t h = omega (arith, h, leb→le 2056 m t)
 
 load-requires : tie.Need-load-requires
 load-requires c κs = search needs
@@ -100,8 +93,8 @@ run-requires c κs =
     let w = s .pre .0 .sizes .width-to in (
       (first-workable true (a .colour) (a .top) (now (a .mosaic)) (now (a .green)) (now (a .plane)) (now (a .work)) (room s) (s .pre .3) (l .load .ensures) (s .pre .0), s .pre .1, s .pre .2, first-narrow true (a .colour) (a .top) (now (a .mosaic)) (now (a .green)) (now (a .plane)) (now (a .work)) (room s) (s .pre .3) (l .load .ensures) (plane-small (l .before .before .before))),
       (
-        (rows-3 w, rows-5 w, rows-7 w, rows-7 w, rows-9 w, rows-9 w),
-        ((rows-5 w, rows-5 w, rows-5 w), (line w, line w, line w, line w, line w)),
+        (rows _ _ tt w, rows _ _ tt w, rows _ _ tt w, rows _ _ tt w, rows _ _ tt w, rows _ _ tt w),
+        ((rows _ _ tt w, rows _ _ tt w, rows _ _ tt w), (line _ tt w, line _ tt w, line _ tt w, line _ tt w, line _ tt w)),
       ),
     )
 
