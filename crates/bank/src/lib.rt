@@ -347,15 +347,11 @@ pub fn join(
     Answer::Accepted
 }
 
-// (sum + 512) whole-divided by 1,024. From 0 on it is taken as one more than (sum − 512) divided, so that no sum wraps.
+// (sum + 512) whole-divided by 1,024, of any sum: by 512, one more, and halved, so that nothing wraps.
 pub fn rounded_quotient(sum: i32) -> i32
     ensures { λ r. ⌜ r ≡ rounded 1024 sum ⌝ }
 {
-    if sum < 0 {
-        filters::whole_divided(sum + 512)
-    } else {
-        filters::whole_divided(sum - 512) + 1
-    }
+    ((sum >> 9) + 1) >> 1
 }
 
 // A sum brought back to a sample, 0..4,095.

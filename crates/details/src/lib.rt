@@ -85,7 +85,7 @@ fn outer_low(line: &[i32], limit: i32, d: usize, n: usize, k: usize) -> i32
 }
 
 // Along a padded line of n that is low along the columns, what of band 2 lies outside the limit.
-fn outer_line(line: &[i32], limit: i32, d: usize, n: usize, out: &mut [i32], at: usize)
+pub fn outer_line(line: &[i32], limit: i32, d: usize, n: usize, out: &mut [i32], at: usize)
     requires { ⌜ Distance limit × Triple 134217728 (now line) d n × (at + n ≤ length (now out)) ⌝ }
     ensures { λ _. ⌜ now (out .exit) ≡ overwrite (now (out .entry)) at n (outer high-split limit d (now (line .entry))) ⌝ }
 {
@@ -97,7 +97,7 @@ fn outer_line(line: &[i32], limit: i32, d: usize, n: usize, out: &mut [i32], at:
 }
 
 // Along a padded line of n that is high along the columns, what of bands 3 and 4 lies outside: their difference and their sum.
-fn outer_lines(
+pub fn outer_lines(
     line: &[i32],
     limit: i32,
     d: usize,
@@ -160,7 +160,7 @@ pub fn crossed_at(x: &[i32], y: &[i32], starts: lines::Five, n: usize, k: usize)
 }
 
 // The joined parts of a row, along three padded lines of parts: their difference and their sum, from `at` on.
-fn join_parts(
+pub fn join_parts(
     parts: &[i32],
     minus: &[i32],
     plus: &[i32],

@@ -1,7 +1,7 @@
 // Inner: the filters of document 01's bank, one number at a time. LLVM inlines each, so that the loops over them are uniform.
 ghost use mathlib.Core.Path.{_≡_};
 ghost use lib.IntN.{pos};
-ghost use Rattle.integers.specs.Numbers.{whole-divided, clamp};
+ghost use Rattle.integers.specs.Numbers.{clamp};
 ghost use Rattle.filters.specs.Bank.{Small, Roundable, low-split, high-split, low-join, high-join, weighted, rescaled};
 
 // 1 2 1
@@ -36,17 +36,6 @@ pub fn high_join(a: i32, b: i32, c: i32, d: i32, e: i32) -> i32
     2 * (b - 3 * c + d) + (a + e)
 }
 
-// n whole-divided by 1,024: the fraction is dropped downward, below zero too.
-pub fn whole_divided(n: i32) -> i32
-    ensures { λ r. ⌜ r ≡ whole-divided n 1024 ⌝ }
-{
-    if n < 0 {
-        -1 - (-1 - n) / 1024
-    } else {
-        n / 1024
-    }
-}
-
 // z, held within least..most.
 pub fn clipped(z: i32, least: i32, most: i32) -> i32
     ensures { λ r. ⌜ r ≡ clamp least most z ⌝ }
@@ -60,11 +49,11 @@ pub fn clipped(z: i32, least: i32, most: i32) -> i32
     z
 }
 
-// A sum brought back to least..most: (sum + 512) whole-divided by 1,024, and clipped. It is for sums to which 512 can be added, so that it does
-// not go by the sum's sign, which a loop over vectors would do both ways.
+// A sum brought back to least..most: (sum + 512) whole-divided by 1,024, by a signed shift, and clipped. It is for sums to which 512 can be
+// added.
 pub fn rescale_bounded(sum: i32, least: i32, most: i32) -> i32
     requires { ⌜ Roundable sum ⌝ }
     ensures { λ r. ⌜ r ≡ rescaled 1024 least most sum ⌝ }
 {
-    clipped(whole_divided(sum + 512), least, most)
+    clipped((sum + 512) >> 10, least, most)
 }

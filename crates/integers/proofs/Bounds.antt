@@ -1,15 +1,15 @@
 -- How large a whole number is, as a bound on `natAbs`, a natural number, which `omega` reads. Bounds of sums, differences,
--- products and of what the machine reads back from a signed local's bits, at every width; and a search that finds them.
+-- products, shifts and of what the machine reads back from a signed local's bits, at every width; and a search that finds them.
 -- Assumes nothing.
 use mathlib.Core.Path.{_≡_, refl, sym, ap, _∙_, subst}
 use mathlib.Core.Bool.{Bool, true, false, not, cond}
 use Prim.Native.Nat.{ℕ, zero, suc, _+_, _*_, _-_, _/_, _≤_, _<_, _^_}
 use native.Mathlib.Decide.{decLe}
 use native.Mathlib.Omega.{arith}
-use native.Mathlib.Nat.{mul-le-mul, le-trans, le-refl}
+use native.Mathlib.Nat.{mul-le-mul, le-trans, le-refl, div-zero, le-div-iff-mul-le, div-mul-le-self}
 use lib.Dec.{T, ltb, ltb→lt, nltb→le, lit<}
 use lib.IntN.{ℤ, pos, negsuc, negℤ, natAbs, subℕ, _+ℤ_, _-ℤ_, _*ℤ_}
-use lib.Signed.{mag, quotZ}
+use lib.Signed.{mag, shrZ}
 use borrow.Author.Tests.{le-ltb, lt-ltb}
 use mir.Syntax.{Width, w8, w16, w32, w64, w128}
 use mir.Val.{SFits, toZ, ofZ, sel, hbits, bits}
@@ -43,10 +43,14 @@ abs-mul (pos a) (negsuc b) = abs-neg (pos (a * suc b))
 abs-mul (negsuc a) (pos b) = abs-neg (pos (suc a * b))
 abs-mul (negsuc a) (negsuc b) = refl
 
--- the machine's quotient, toward zero
-pub abs-quot : (z : ℤ) (d : ℕ) → natAbs (quotZ z (pos d)) ≡ natAbs z / d
-abs-quot (pos a) d = refl
-abs-quot (negsuc a) d = abs-neg (pos (suc a / d))
+-- the machine's shift to the right
+pub div-monotone : (d : ℕ) {a b : ℕ} → a ≤ b → a / d ≤ b / d
+div-monotone zero {a} {b} h = omega (arith, div-zero a, div-zero b)
+div-monotone (suc d) {a} {b} h = le-div-iff-mul-le {k = suc d} (omega arith) .1 (le-trans (div-mul-le-self a (suc d)) h)
+
+pub abs-shift : (z : ℤ) (d : ℕ) {b : ℕ} → natAbs z ≤ b → natAbs (shrZ z d) ≤ suc (b / d)
+abs-shift (pos a) d {b} h = omega (arith, div-monotone d h)
+abs-shift (negsuc a) d {b} h = let l : a ≤ b = omega arith in omega (arith, div-monotone d l)
 
 -- the difference of two natural numbers, by which is larger; and how far apart they are
 pub minus-pos : (a b : ℕ) → b ≤ a → pos a -ℤ pos b ≡ pos (a - b)
@@ -128,6 +132,9 @@ bound-mul {a} {b} p q = record {
   holds = subst (λ (n : ℕ). n ≤ p .most * q .most) (sym (abs-mul a b)) (mul-le-mul (p .holds) (q .holds));
 }
 
+abbrev pub bound-shift : (z : ℤ) (d : ℕ) → Bound z → Bound (shrZ z d)
+bound-shift z d p = record { most = suc (p .most / d); holds = abs-shift z d (p .holds) }
+
 abbrev pub bound-read : (w : Width) {z : ℤ} → Bound z → Bound (toZ w (ofZ w z))
 bound-read w {z} p = record { most = p .most; holds = le-trans (abs-read w z) (p .holds) }
 
@@ -135,7 +142,7 @@ bound-read w {z} p = record { most = p .most; holds = le-trans (abs-read w z) (p
 abbrev pub bound-read-32 : {z : ℤ} → Bound z → Bound (toZ w32 (ofZ w32 z))
 bound-read-32 = bound-read w32
 
-pub ruleset bounds = (bound-add, bound-sub, bound-mul, bound-read-32, bound-pos, bound-negsuc, bound-neg, bound-leaf)
+pub ruleset bounds = (bound-add, bound-sub, bound-mul, bound-shift, bound-read-32, bound-pos, bound-negsuc, bound-neg, bound-leaf)
 
 pub fits : {w : Width} {z : ℤ} (b : Bound z) → T (ltb (b .most) (2 ^ hbits w)) → SFits w z
 fits {w} {z} b t = fits-abs w z (let l : b .most < 2 ^ hbits w = ltb→lt (b .most) (2 ^ hbits w) t in omega (arith, b .holds))

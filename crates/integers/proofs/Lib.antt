@@ -5,4 +5,5 @@ pub mod Order
 pub mod Bounds
 pub mod Clamping
 pub mod Rounding
+pub mod Shifts
 pub mod Lists

@@ -7,13 +7,13 @@ use native.Mathlib.Nat.{div-add-mod, mod-lt, mul-suc, le-div-iff-mul-le, le-tran
 use native.Mathlib.Decide.{decLe}
 use native.Mathlib.Omega.{arith}
 use lib.Dec.{leb→le, le→leb}
-use lib.IntN.{ℤ, pos, negsuc, negℤ, natAbs, _+ℤ_, _-ℤ_, _*ℤ_, *ℤ-one, one}
+use lib.IntN.{ℤ, pos, negsuc, negℤ, natAbs, _+ℤ_, _-ℤ_, _*ℤ_}
 use lib.Signed.{_≤ℤ_}
 use Rattle.integers.specs.Numbers.{whole-divided, rounded}
 use Rattle.integers.proofs.Products.{*ℤ-sub, *ℤ-+ℤ}
 use Rattle.integers.proofs.Linear.{linear, eq-of-sub, x₀, x₁, x₂, neg, _⊕_, _⊖_}
 use Rattle.integers.proofs.Order.{≤ℤ-add}
-use Rattle.integers.proofs.Bounds.{abs-mul, abs-add, abs-minus}
+use Rattle.integers.proofs.Bounds.{abs-mul, abs-add, abs-minus, div-monotone}
 
 -- ---- whole division: z = d · q + r with 0 ≤ r < d
 pub record Divided (d : ℕ) (z q : ℤ) : Type 0 where
@@ -66,33 +66,14 @@ one-quotient {d} {z} {p} {q} s t = multiple-close d p q (subst (λ (x : ℤ). na
 pub whole-divided-by : {d : ℕ} {z q : ℤ} → Divided d z q → whole-divided z d ≡ q
 whole-divided-by {d} {z} s = one-quotient (whole-divided-is d (omega (arith, s .below)) z) s
 
--- d more is one more
-pub whole-divided-next : (d : ℕ) (z : ℤ) → 0 < d → whole-divided (z +ℤ pos d) d ≡ whole-divided z d +ℤ pos 1
-unfolding one
-whole-divided-next d z some = whole-divided-by (record { rest = q .rest; below = q .below; sum = more })
-  where
-    q : Divided d z (whole-divided z d)
-    q = whole-divided-is d some z
-
-    Q : ℤ
-    Q = pos d *ℤ whole-divided z d
-
-    more : z +ℤ pos d ≡ pos d *ℤ (whole-divided z d +ℤ pos 1) +ℤ pos (q .rest)
-    more =
-        ap (λ (x : ℤ). x +ℤ pos d) (q .sum) ∙ linear (Q ∷ pos (q .rest) ∷ pos d ∷ []) (x₀ ⊕ x₁ ⊕ x₂) (x₀ ⊕ x₂ ⊕ x₁) tt
-        ∙ ap (λ (x : ℤ). Q +ℤ x +ℤ pos (q .rest)) (sym (*ℤ-one (pos d))) ∙ ap (λ (x : ℤ). x +ℤ pos (q .rest)) (sym (*ℤ-+ℤ (pos d) (whole-divided z d) (pos 1)))
-
-div-monotone : (d : ℕ) {a b : ℕ} → 0 < d → a ≤ b → a / d ≤ b / d
-div-monotone d {a} {b} some h = le-div-iff-mul-le some .1 (le-trans (div-mul-le-self a d) h)
-
 pub whole-divided-monotone : (d : ℕ) {a b : ℤ} → 0 < d → a ≤ℤ b → whole-divided a d ≤ℤ whole-divided b d
 whole-divided-monotone d {a} {b} some h = go a b h
   where
     go : (a b : ℤ) → a ≤ℤ b → whole-divided a d ≤ℤ whole-divided b d
-    go (pos a) (pos b) h = unfold whole-divided in record { le = le→leb (a / d) (b / d) (div-monotone d some (leb→le a b (h .le))) }
+    go (pos a) (pos b) h = unfold whole-divided in record { le = le→leb (a / d) (b / d) (div-monotone d (leb→le a b (h .le))) }
     go (pos a) (negsuc b) h = absurd (h .le)
     go (negsuc a) (pos b) h = unfold whole-divided in record { le = tt }
-    go (negsuc a) (negsuc b) h = unfold whole-divided in record { le = le→leb (b / d) (a / d) (div-monotone d some (leb→le b a (h .le))) }
+    go (negsuc a) (negsuc b) h = unfold whole-divided in record { le = le→leb (b / d) (a / d) (div-monotone d (leb→le b a (h .le))) }
 
 -- ---- the rounded quotient
 pub rounded-monotone : (d : ℕ) {a b : ℤ} → 0 < d → a ≤ℤ b → rounded d a ≤ℤ rounded d b

@@ -6,8 +6,7 @@ ghost use Prim.Native.Nat.{_≤_};
 ghost use lib.IntN.{natAbs};
 ghost use Rattle.nested_floor.specs.NestedFloor.{whole, rest, settled-two};
 
-// The whole part of z by 1,024: the fraction is dropped downward. A shift, as it stands five times in a loop over a line, where
-// `filters::whole_divided` divides.
+// The whole part of z by 1,024: the fraction is dropped downward.
 pub fn whole_part(z: i32) -> i32
     ensures { λ r. ⌜ r ≡ whole z ⌝ }
 {

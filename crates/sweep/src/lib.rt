@@ -7,9 +7,55 @@ ghost use Rattle.planes.specs.Planes.{Sizes};
 ghost use Rattle.lines.specs.Lines.{Run};
 ghost use Rattle.details.specs.Details.{Crossing};
 ghost use Rattle.rings.specs.Planes.{reach, Projectable};
-ghost use Rattle.rings.specs.Rows.{row-at, five-slots};
-ghost use Rattle.rings.specs.Stages.{reached, Working, row-laid};
+ghost use Rattle.rings.specs.Rows.{row-at, five-slots, Sound, RingRows, ring-apart, ring-together};
+ghost use Rattle.rings.specs.Stages.{reached, Working, row-laid, ring-row-laid};
 ghost use Rattle.sweep.specs.Sweep.{settled-row, with-projected};
+
+// The second stage: a row of the joined parts, from three rows of differences. It lays what `rings::parts_stage` does, by the same lines. That one
+// serves both levels of a two-level sweep and is called as it stands; this one has one caller, and the compiler puts it there, with the spacing and
+// the rings' places as constants.
+fn parts_stage(
+    source: &[i32],
+    given: rings::Given,
+    level: rings::Level,
+    t: usize,
+    low: &mut [i32],
+    high: &mut [i32],
+    parts: &mut [i32],
+    minus: &mut [i32],
+    plus: &mut [i32],
+    apart: &mut [i32],
+    together: &mut [i32],
+)
+    requires { ⌜ Sizes 1 (given .width) (given .height) × (t ≤ 4096) × Sound level ⌝ }
+    requires { ⌜ (Working (level .lag) (given .height) t → RingRows given level (now source) (reached (level .lag) (given .height) t)) ⌝ }
+    requires { ⌜ (given .width + 8 ≤ length (now low)) × (given .width + 8 ≤ length (now high)) × (given .width + 8 ≤ length (now parts)) × (given .width + 8 ≤ length (now minus)) × (given .width + 8 ≤ length (now plus)) ⌝ }
+    requires { ⌜ (level .slots * given .width ≤ length (now apart)) × (level .slots * given .width ≤ length (now together)) ⌝ }
+    ensures { λ _. ⌜ now (apart .exit) ≡ ring-row-laid (level .slots) (level .lag) given t (now (apart .entry)) (ring-apart given level (now (source .entry))) ⌝ }
+    ensures { λ _. ⌜ now (together .exit) ≡ ring-row-laid (level .slots) (level .lag) given t (now (together .entry)) (ring-together given level (now (source .entry))) ⌝ }
+{
+    let r = rings::done(t, level.lag, given.height);
+    if rings::done(t + 1, level.lag, given.height) <= r {
+        return;
+    }
+    let n = given.width;
+    let d = level.spacing;
+    let limit = level.limit;
+    let pad = 2 * d;
+    let slot = r % level.slots * n;
+    let here = r % level.source * n;
+    let above = rings::slot_before(given, level.source, r, d);
+    let below = rings::slot_after(given, level.source, r, d);
+    lines::split_line(source, above, here, below, n, low, high, d);
+    lines::pad_line(low, n, d);
+    details::outer_line(low, limit, d, n, parts, pad);
+    lines::pad_line(high, n, d);
+    details::outer_lines(high, limit, d, n, minus, plus, pad);
+    lines::pad_line(parts, n, pad);
+    lines::pad_line(minus, n, pad);
+    lines::pad_line(plus, n, pad);
+    details::join_parts(parts, minus, plus, d, n, apart, together, slot);
+}
 
 // The last stage: a row of the plane, from five rows of the joined parts.
 fn settled_stage(
@@ -66,7 +112,7 @@ fn project_rows(
     let mut t = 0;
     while t < steps {
         rings::difference_stage(own, guide, given, t, differences);
-        rings::parts_stage(
+        parts_stage(
             differences,
             given,
             level,

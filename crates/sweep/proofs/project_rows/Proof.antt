@@ -153,7 +153,7 @@ module _ (q : tie.After-parts-stage Inv-loop μ-loop) where
       let v = from .loop .inv in
       let ring = before .difference-stage .last .1 .1 .1 .1 .0 in
       aparts-next g (least s) (most s) (now (a .own)) (now (a .guide)) (s .pre .0 .0) (from .loop .t) (ring-held before) (from .loop .apart) (as-long (v .9) (s .pre .1 .1 .0)) (v .1 .aparts)
-      (subst (λ (x : Level). aparts ≡ ring-row-laid 5 1 g (from .loop .t) (from .loop .apart) (ring-apart g x ring)) (level-is s) (q .parts-stage .ensures .1 .0))
+      (subst (λ (x : Level). aparts ≡ ring-row-laid 5 1 g (from .loop .t) (from .loop .apart) (ring-apart g x ring)) (level-is s) (q .parts-stage .ensures .0))
 
   together-held : let s = begun from in
       let a = s .args in Held (a .given) 5 1 togethers (together-plane (a .given .limit) 1 (a .given .width) (a .given .height) (difference (own-plane (a .given) (now (a .own))) (guide-plane (a .given) (now (a .guide))))) (from .loop .t + 1)
@@ -164,7 +164,7 @@ module _ (q : tie.After-parts-stage Inv-loop μ-loop) where
       let v = from .loop .inv in
       let ring = before .difference-stage .last .1 .1 .1 .1 .0 in
       togethers-next g (least s) (most s) (now (a .own)) (now (a .guide)) (s .pre .0 .0) (from .loop .t) (ring-held before) (from .loop .together) (as-long (v .10) (s .pre .1 .1 .1)) (v .1 .togethers)
-      (subst (λ (x : Level). togethers ≡ ring-row-laid 5 1 g (from .loop .t) (from .loop .together) (ring-together g x ring)) (level-is s) (q .parts-stage .ensures .1 .1 .0))
+      (subst (λ (x : Level). togethers ≡ ring-row-laid 5 1 g (from .loop .t) (from .loop .together) (ring-together g x ring)) (level-is s) (q .parts-stage .ensures .1))
 
 settled-stage-requires : tie.Need-settled-stage-requires Inv-loop μ-loop
 settled-stage-requires c κs =
