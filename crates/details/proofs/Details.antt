@@ -20,12 +20,13 @@ use Rattle.integers.proofs.Bounds.{fits-abs, minus-pos, minus-neg}
 use Rattle.integers.proofs.Tests.{never}
 use Rattle.integers.proofs.Linear.{linear, neg, x₀, x₁, _⊕_, _⊖_}
 use Rattle.planes.specs.Lists.{value}
-use Rattle.filters.specs.Bank.{Taps, weighted, low-split, high-split, high-join}
+use Rattle.filters.specs.Bank.{Taps, weighted, low-split, high-split, high-join, along}
 use Rattle.filters.proofs.Ranges.{gain, weighted-range}
 use Rattle.lines.specs.declared.Five.{Five}
 use Rattle.lines.specs.Lines.{Run, spaced, three, padded}
 use Rattle.lines.proofs.Lines.{run-wider, read-small, three-small, three-read, three-range, three-runs, three-along, five-runs, five-places}
 use Rattle.projection.specs.Fast.{excess, outer-part, crossed-along}
+use Rattle.projection.proofs.Parts.{crossed-same}
 use Rattle.projection.proofs.Outside.{excess-pos, excess-negsuc, excess-bound}
 use Rattle.details.specs.Details.{above-zero, below-zero, Triple, outer, from-place, crossed, Crossing}
 
@@ -149,3 +150,12 @@ module _ (d : ℕ) {n : ℕ} (some : 1 ≤ n) {p : ℕ} (pad : p ≡ 2 * d) (x y
       let u = five-places d some pad x fx ex k i in
       let v = five-places d some pad y fy ey k i in
       λ m. weighted high-join (u .far-back m) (v .near-back m) (u .here m) (v .near-on m) (u .far-on m)
+
+-- and joined, as the call leaves it: f of what the crossed lines give and of what the plain one does
+pub joined-laid : (f : ℤ → ℤ → ℤ) (d : ℕ) {n : ℕ} (some : 1 ≤ n) {p : ℕ} (pad : p ≡ 2 * d) (parts minus plus : List ℤ) {parts' minus' plus' : List ℤ}
+    → p + n + p ≤ length parts → p + n + p ≤ length minus → p + n + p ≤ length plus → parts' ≡ padded n p parts → minus' ≡ padded n p minus → plus' ≡ padded n p plus
+    → (out : List ℤ) (at : ℕ) {last : List ℤ} → last ≡ overwrite out at n (λ k. f (crossed minus' plus' (spaced d) k) (crossed parts' parts' (spaced d) k))
+    → last ≡ overwrite out at n (λ k. f (crossed-along d n (from-place p minus) (from-place p plus) k) (along high-join d n (from-place p parts) k))
+joined-laid f d {n} some {p} pad parts minus plus fp fm fq e m q out at z =
+    z
+    ∙ overwrite-cong out at n _ _ (λ k i. λ j. f (crossed-padded d some pad minus plus fm fq m q k i j) ((crossed-padded d some pad parts parts fp fp e e k i ∙ crossed-same d n (from-place p parts) k) j))

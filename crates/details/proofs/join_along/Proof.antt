@@ -1,14 +1,11 @@
 -- `details::join_along` meets its contract: each line is padded, and then they are joined.
 -- Assumes nothing.
-use mathlib.Core.Path.{refl, _∙_}
-use Prim.Native.Nat.{_*_}
-use lib.IntN.{ℤ, _+ℤ_, _-ℤ_}
+use mathlib.Core.Path.{refl}
+use lib.IntN.{_+ℤ_, _-ℤ_}
 use denote.Ref.{now}
 use borrow.Author.Needs.{needs}
-use Rattle.integers.proofs.Lists.{overwrite-cong}
-use Rattle.projection.proofs.Parts.{crossed-same}
-use Rattle.details.specs.Details.{from-place, joined-apart, joined-together}
-use Rattle.details.proofs.Details.{crossing-padded, crossed-padded}
+use Rattle.details.specs.Details.{joined-apart, joined-together}
+use Rattle.details.proofs.Details.{crossing-padded, joined-laid}
 use Rattle.details.proofs.join_along.Statement.{statement}
 use Rattle.details.proofs.join_along.Tie as tie
 
@@ -58,13 +55,11 @@ returns c =
     let e = c .before .before .before .before .before .before .before .before .before .before .before .before .before .before .before .pad-line .ensures in
     let f = c .before .before .before .before .before .before .before .before .before .before .before .before .pad-line2 .ensures in
     let g = c .before .before .before .before .before .before .before .before .before .pad-line3 .ensures in
-    let q = crossed-padded (a .d) one refl (now (a .minus)) (now (a .plus)) (s .pre .0 .4) (s .pre .0 .5) f g in
-    let p = crossed-padded (a .d) one refl (now (a .parts)) (now (a .parts)) (s .pre .0 .3) (s .pre .0 .3) e e in
-    let z = crossed-same (a .d) (a .n) (from-place (2 * a .d) (now (a .parts))) in (
+    let fit = s .pre .0 in (
       (e, f, g),
       (
-        c .before .before .join-parts .ensures .0 ∙ overwrite-cong (now (a .apart)) (a .at) (a .n) _ _ (λ k i. λ j. q k i j -ℤ (p k i ∙ z k) j),
-        c .before .before .join-parts .ensures .1 ∙ overwrite-cong (now (a .together)) (a .at) (a .n) _ _ (λ k i. λ j. q k i j +ℤ (p k i ∙ z k) j),
+        joined-laid _-ℤ_ (a .d) one refl (now (a .parts)) (now (a .minus)) (now (a .plus)) (fit .3) (fit .4) (fit .5) e f g (now (a .apart)) (a .at) (c .before .before .join-parts .ensures .0),
+        joined-laid _+ℤ_ (a .d) one refl (now (a .parts)) (now (a .minus)) (now (a .plus)) (fit .3) (fit .4) (fit .5) e f g (now (a .together)) (a .at) (c .before .before .join-parts .ensures .1),
       ),
     )
 
