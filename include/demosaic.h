@@ -36,7 +36,7 @@ extern "C" {
 
 /* 4 follows the customer's own versions one to three; the second is the last request of document 02 that is in it. */
 #define DEMOSAIC_VERSION_MAJOR 4
-#define DEMOSAIC_VERSION_MINOR 1
+#define DEMOSAIC_VERSION_MINOR 2
 
 /*
  * ---- Questions
