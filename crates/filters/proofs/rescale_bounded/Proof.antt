@@ -1,7 +1,7 @@
 -- `filters::rescale_bounded` meets its contract: 512 more fits, and the shift is the whole division.
 -- Assumes nothing.
 use mathlib.Core.Path.{_∙_, ap}
-use lib.IntN.{ℤ, pos, _+ℤ_}
+use lib.IntN.{ℤ, _+ℤ_}
 use mir.Syntax.{w32}
 use mir.Facts.{toZ-ofZ as back}
 use borrow.Author.Needs.{needs}
@@ -21,7 +21,7 @@ returns : tie.Need-returns
 unfolding rounded
 returns c =
     let s = c .before in
-    let quotient = shifted w32 _ (add-clipped s) (ap (λ (z : ℤ). z +ℤ pos 512) (back (s .fits .sum))) in
+    let quotient = shifted w32 _ (add-clipped s) (ap (λ (z : ℤ). z +ℤ _) (back (s .fits .sum))) in
     read-is w32 (c .clipped .ok) (c .clipped .ensures) ∙ (λ i. clamp (back (s .fits .least) i) (back (s .fits .most) i) (quotient i))
 
 pub rescale-bounded-spec : {M : Type 1} → statement M

@@ -3,7 +3,7 @@
 use mathlib.Core.Path.{_≡_, refl, sym, _∙_, subst}
 use mathlib.Core.List.{List}
 use Prim.Native.Nat.{ℕ, _+_, _*_, _≤_, _<_}
-use native.Mathlib.Nat.{mul-le-mul}
+use native.Mathlib.Nat.{mod-lt}
 use native.Mathlib.Omega.{arith}
 use lib.IntN.{ℤ, _+ℤ_, _-ℤ_}
 use lib.ListN.{length}
@@ -23,7 +23,7 @@ use Rattle.rings.specs.declared.Given.{Given}
 use Rattle.rings.specs.declared.Level.{Level}
 use Rattle.rings.specs.Rows.{slot, ring-line, RingRows, ring-apart, ring-together}
 use Rattle.rings.specs.Stages.{Working}
-use Rattle.rings.proofs.Rows.{slot-room, ring-runs, line-laid, line-run, outer-runs, both-laid}
+use Rattle.rings.proofs.Rows.{slot-fits, slot-room, ring-runs, line-laid, line-run, outer-runs, both-laid}
 use Rattle.rings.proofs.Stages.{working, at-row, ring-worked, ring-idle}
 use borrow.Author.Needs.{needs}
 use Rattle.sweep.proofs.parts_stage.Statement.{statement}
@@ -143,7 +143,7 @@ mul-slot : tie.Need-mul-slot
 mul-slot c =
     let e = c .before .before in
     let p = begun e .pre .0 in
-    omega (arith, slot-room (level e .slots) (w e) (row e) (p .2 .slots-from), mul-le-mul (p .2 .slots-to) (p .0 .width-to))
+    slot-fits _ _ (omega (arith, mod-lt (row e) (p .2 .slots-from), mod-lt (row e) (p .2 .source-from), p .2 .slots-to, p .2 .source-to)) (p .0 .width-to)
 
 rem-here : tie.Need-rem-here
 rem-here c = omega (arith, begun (c .before .before .before) .pre .0 .2 .source-from)
@@ -152,7 +152,7 @@ mul-here : tie.Need-mul-here
 mul-here c =
     let e = c .before .before .before in
     let p = begun e .pre .0 in
-    omega (arith, slot-room (level e .source) (w e) (row e) (p .2 .source-from), mul-le-mul (p .2 .source-to) (p .0 .width-to))
+    slot-fits _ _ (omega (arith, mod-lt (row e) (p .2 .source-from), p .2 .source-to)) (p .0 .width-to)
 
 slot-before-requires : tie.Need-slot-before-requires
 slot-before-requires c κs = let p = begun (c .before .before .before) .pre .0 in (p .2 .source-from, p .2 .source-to, p .0)
