@@ -16,10 +16,6 @@ pub fn reflected(n: usize, i: usize) -> usize
         return 0;
     }
     let period = 2 * (n - 1);
-    // the next places after the line, which need no division
-    if i < period {
-        return period - i;
-    }
     let m = i % period;
     if m < n { m } else { period - m }
 }

@@ -1,7 +1,7 @@
--- `border::reflected` meets its contract: inside, the index itself; else reflected once, or by the remainder at 2·(n − 1). Assumes nothing.
+-- `border::reflected` meets its contract: inside, the index itself; else by the remainder at 2·(n − 1). Assumes nothing.
 use mathlib.Core.Path.{_≡_, sym, ap, _∙_}
-use Prim.Native.Nat.{ℕ, _*_, _-_, _%_, _<_, _≤_}
-use native.Mathlib.Nat.{mod-lt, mod-eq-of-lt}
+use Prim.Native.Nat.{_*_, _-_, _%_, _<_, _≤_}
+use native.Mathlib.Nat.{mod-lt}
 use native.Mathlib.Omega.{arith}
 use lib.IntN.{pos}
 use borrow.Author.Needs.{needs}
@@ -25,42 +25,30 @@ sub-period c = search needs
 mul-period : tie.Need-mul-period
 mul-period c = search needs
 
+rem-m : tie.Need-rem-m
+rem-m c = search needs
+
 -- past the first two tests the line has two places or more
 long : (c : tie.Else2) → 2 ≤ c .before .before .args .n
 long c = let other = c .if2 .left in omega arith
 
-sub-result : tie.Need-sub-result
-sub-result c = omega (arith, c .if3 .taken)
-
--- reflected once
-returns-3 : tie.Need-returns-3
-returns-3 c =
-    let q = c .before in
-    let a = q .before .before .args in
-    let outside = q .before .if1 .left in
-    let same : a .i % (2 * (a .n - 1)) ≡ a .i = mod-eq-of-lt (c .if3 .taken) in
-    (sym (reflect-high (a .n) (a .i) (long q) (omega (arith, same, outside)) ∙ ap (λ (m : ℕ). 2 * (a .n - 1) - m) same), omega (arith, outside, long q))
-
-rem-m : tie.Need-rem-m
-rem-m c = search needs
-
 rest : (c : tie.Else2) → let a = c .before .before .args in a .i % (2 * (a .n - 1)) < 2 * (a .n - 1)
 rest c = let l = long c in mod-lt (c .before .before .args .i) (omega arith)
 
-sub-result-2 : tie.Need-sub-result-2
-sub-result-2 c = omega (arith, rest (c .before .before))
+sub-result : tie.Need-sub-result
+sub-result c = omega (arith, rest (c .before))
+
+returns-3 : tie.Need-returns-3
+returns-3 c = let a = c .before .before .before .args in (sym (reflect-low (a .n) (a .i) (long (c .before)) (c .if3 .taken)), c .if3 .taken)
 
 returns-4 : tie.Need-returns-4
-returns-4 c = let a = c .before .before .before .before .args in (sym (reflect-low (a .n) (a .i) (long (c .before .before)) (c .if4 .taken)), c .if4 .taken)
-
-returns-5 : tie.Need-returns-5
-returns-5 c =
-    let a = c .before .before .before .before .args in
-    let l = long (c .before .before) in
-    let r = rest (c .before .before) in
-    (sym (reflect-high (a .n) (a .i) l (c .if4 .left)), omega arith)
+returns-4 c =
+    let a = c .before .before .before .args in
+    let l = long (c .before) in
+    let r = rest (c .before) in
+    (sym (reflect-high (a .n) (a .i) l (c .if3 .left)), omega arith)
 
 pub reflected-spec : {M : Type 1} → statement M
 reflected-spec =
     tie.close
-    (tie.spec returns returns-2 sub-period mul-period sub-result returns-3 rem-m sub-result-2 returns-4 returns-5)
+    (tie.spec returns returns-2 sub-period mul-period rem-m sub-result returns-3 returns-4)
