@@ -3,14 +3,14 @@
 use mathlib.Core.Path.{_≡_, refl, sym, ap, _∙_, subst}
 use mathlib.Core.List.{[], _∷_}
 use Prim.Native.Nat.{ℕ, zero, suc, _+_, _*_, _-_, _/_, _%_, _≤_, _<_}
-use native.Mathlib.Nat.{div-add-mod, mod-lt, mul-suc, le-div-iff-mul-le, le-trans, div-mul-le-self, mul-le-mul-left}
+use native.Mathlib.Nat.{div-add-mod, mod-lt, mul-suc, mul-le-mul-left}
 use native.Mathlib.Decide.{decLe}
 use native.Mathlib.Omega.{arith}
 use lib.Dec.{leb→le, le→leb}
 use lib.IntN.{ℤ, pos, negsuc, negℤ, natAbs, _+ℤ_, _-ℤ_, _*ℤ_}
 use lib.Signed.{_≤ℤ_}
 use Rattle.integers.specs.Numbers.{whole-divided, rounded}
-use Rattle.integers.proofs.Products.{*ℤ-sub, *ℤ-+ℤ}
+use Rattle.integers.proofs.Products.{*ℤ-sub}
 use Rattle.integers.proofs.Linear.{linear, eq-of-sub, x₀, x₁, x₂, neg, _⊕_, _⊖_}
 use Rattle.integers.proofs.Order.{≤ℤ-add}
 use Rattle.integers.proofs.Bounds.{abs-mul, abs-add, abs-minus, div-monotone}

@@ -1,14 +1,14 @@
 -- The laws of numbers taken apart by 1,024: the parts and their sizes, and a sum of two levels brought back.
 -- Assumes nothing.
-use mathlib.Core.Path.{_≡_, refl, sym, _∙_, ap}
+use mathlib.Core.Path.{_≡_, _∙_, ap}
 use mathlib.Core.List.{[], _∷_}
 use Prim.Native.Nat.{ℕ, _+_, _*_, _≤_}
 use native.Mathlib.Nat.{le-trans}
 use native.Mathlib.Omega.{arith}
 use lib.Dec.{T, leb, leb→le, lit<}
 use lib.IntN.{ℤ, pos, negsuc, natAbs, _+ℤ_, _-ℤ_, _*ℤ_}
-use Rattle.integers.specs.Numbers.{whole-divided, rounded, clamp}
-use Rattle.integers.proofs.Linear.{linear, number, x₀, x₁, x₂, _⊕_, _⊖_, _⊛_}
+use Rattle.integers.specs.Numbers.{whole-divided, clamp}
+use Rattle.integers.proofs.Linear.{linear, x₀, x₁, _⊕_, _⊖_, _⊛_}
 use Rattle.integers.proofs.Bounds.{Bound}
 use Rattle.integers.proofs.Rounding.{Divided, whole-divided-is}
 use Rattle.integers.proofs.Shifts.{rounded-by-levels}

@@ -6,7 +6,6 @@ use native.Mathlib.Omega.{arith}
 use lib.Dec.{lit<}
 use lib.IntN.{ℤ, natAbs, _+ℤ_}
 use mir.Syntax.{w32}
-use mir.Facts.{toZ-ofZ as back}
 use Rattle.integers.proofs.Bounds.{abs-mag, fits, bounds}
 use Rattle.integers.proofs.Shifts.{shifted, rounded-by-halves}
 use Rattle.bank.proofs.rounded_quotient.Statement.{statement}
