@@ -1,7 +1,7 @@
 //! Times the library's calls: `cargo run --release --features bench --bin bench`.
 //!
 //! Beside each stands plain C of the same form (`c/plain_*.c`), by clang and by gcc. Before calls are timed
-//! they must give the same. Each time is told on standard error, and at last README's table is printed.
+//! they must give the same. Each time is told on standard error, and at last docs/SPEED.md's table is printed.
 
 use bank::Bank;
 use calls::PROGRAMS;
