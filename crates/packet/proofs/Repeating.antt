@@ -3,8 +3,8 @@ use Prim.Native.Nat.{ℕ}
 use mathlib.Core.Path.{_≡_, refl, sym, ap, _∙_}
 use mathlib.Core.Bool.{Bool, true, false, cond, _&&_}
 use mathlib.Core.List.{List}
-use lib.Dec.{eqb, eqb→eq}
-use borrow.Author.Tests.{eq-eqb, ne-eqb}
+use lib.Dec.{T, eqb, eqb→eq}
+use borrow.Author.Tests.{eq-eqb}
 use Rattle.integers.specs.Lists.{same-list}
 use Rattle.integers.proofs.Lists.{same-list-yes, same-list-is}
 use Rattle.integers.proofs.Tests.{is-true, true-is, and-left, and-right}
@@ -12,68 +12,68 @@ use Rattle.questions.specs.Questions.{ask}
 use Rattle.questions.proofs.Asking.{all-yes, all-yes-split}
 use Rattle.questions.proofs.Answering.{answer-no, answer-yes}
 use Rattle.little_endian.specs.Bytes.{samples-in}
-use Rattle.packet.specs.Packet.{fields-of, sample-part, samples-of, same-shape, repeats}
+use Rattle.packet.specs.Packet.{fields-of, sample-part, samples-of, same-fields, repeats}
 use Rattle.packet.specs.Calls.{read-questions, repeat-questions, number-of-repeat, RepeatResult}
 use Rattle.packet.specs.declared.Fields.{Fields}
 use Rattle.packet.specs.declared.Repeat.the-variants.{Yes, No, Refused}
 use Rattle.packet.proofs.Stores.{SoundPacket, sound-by}
 
 -- ---- both ways
-pub record SameShape (f g : Fields) : Type 0 where
-  pub width : f .width ≡ g .width
-  pub height : f .height ≡ g .height
-  pub layout : f .layout ≡ g .layout
-
-pub same-shape-is : (f g : Fields) → same-shape f g ≡ true → SameShape f g
-unfolding same-shape
-same-shape-is f g e =
-    let t = true-is e in
+pub same-fields-is : (f g : Fields) → same-fields f g ≡ true → f ≡ g
+unfolding same-fields
+same-fields-is f g e =
     let W = eqb (f .width) (g .width) in
     let H = eqb (f .height) (g .height) in
     let L = eqb (f .layout) (g .layout) in
-    let hl = and-right W (H && L) t in
-    record {
-      width = eqb→eq (f .width) (g .width) (and-left W (H && L) t);
-      height = eqb→eq (f .height) (g .height) (and-left H L hl);
-      layout = eqb→eq (f .layout) (g .layout) (and-right H L hl);
+    let R = eqb (f .settings .rounds) (g .settings .rounds) in
+    let S = eqb (f .settings .threshold) (g .settings .threshold) in
+    let t : T (W && (H && (L && (R && S)))) = true-is e in
+    let h = and-right W (H && (L && (R && S))) t in
+    let l = and-right H (L && (R && S)) h in
+    let r = and-right L (R && S) l in
+    λ j. record {
+      width = eqb→eq (f .width) (g .width) (and-left W (H && (L && (R && S))) t) j;
+      height = eqb→eq (f .height) (g .height) (and-left H (L && (R && S)) h) j;
+      layout = eqb→eq (f .layout) (g .layout) (and-left L (R && S) l) j;
+      settings = record {
+        rounds = eqb→eq (f .settings .rounds) (g .settings .rounds) (and-left R S r) j;
+        threshold = eqb→eq (f .settings .threshold) (g .settings .threshold) (and-right R S r) j;
+      };
     }
 
-pub same-shape-yes : (f g : Fields) → SameShape f g → same-shape f g ≡ true
-unfolding same-shape
-same-shape-yes f g s = λ j. eq-eqb _ _ (s .width) j && (eq-eqb _ _ (s .height) j && eq-eqb _ _ (s .layout) j)
+pub same-fields-yes : (f g : Fields) → f ≡ g → same-fields f g ≡ true
+unfolding same-fields
+same-fields-yes f g e =
+    λ j. eq-eqb _ _ (ap (λ (x : Fields). x .width) e) j
+    && (eq-eqb _ _ (ap (λ (x : Fields). x .height) e) j
+    && (eq-eqb _ _ (ap (λ (x : Fields). x .layout) e) j
+    && (eq-eqb _ _ (ap (λ (x : Fields). x .settings .rounds) e) j && eq-eqb _ _ (ap (λ (x : Fields). x .settings .threshold) e) j)))
 
--- width, height, layout and samples agree
-pub record SameFrame (a b : List ℕ) : Type 0 where
-  pub shape : SameShape (fields-of a) (fields-of b)
-  pub samples : samples-of a ≡ samples-of b
-
-pub repeats-agree : (a b : List ℕ) → repeats a b ≡ true → SameFrame a b
+pub repeats-agree : (a b : List ℕ) → repeats a b ≡ true → (fields-of a ≡ fields-of b) × (samples-of a ≡ samples-of b)
 unfolding repeats
 repeats-agree a b e =
-    let F = same-shape (fields-of a) (fields-of b) in
+    let F = same-fields (fields-of a) (fields-of b) in
     let S = same-list (samples-of a) (samples-of b) in
-    record {
-      shape = same-shape-is (fields-of a) (fields-of b) (is-true F (and-left F S (true-is e)));
-      samples = same-list-is (samples-of a) (samples-of b) (is-true S (and-right F S (true-is e)));
-    }
+    (same-fields-is (fields-of a) (fields-of b) (is-true F (and-left F S (true-is e))), same-list-is (samples-of a) (samples-of b) (is-true S (and-right F S (true-is e))))
 
-pub agree-repeats : (a b : List ℕ) → SameFrame a b → repeats a b ≡ true
+pub agree-repeats : (a b : List ℕ) → fields-of a ≡ fields-of b → samples-of a ≡ samples-of b → repeats a b ≡ true
 unfolding repeats
-agree-repeats a b g = λ j. same-shape-yes (fields-of a) (fields-of b) (g .shape) j && same-list-yes (samples-of a) (samples-of b) (g .samples) j
+agree-repeats a b f s = λ j. same-fields-yes (fields-of a) (fields-of b) f j && same-list-yes (samples-of a) (samples-of b) s j
 
 -- ---- one field after another
 module _ (f g : Fields) where
-  pub width-differs : (f .width ≡ g .width → ⊥) → false ≡ same-shape f g
-  unfolding same-shape
-  width-differs n = λ j. sym (ne-eqb (f .width) (g .width) n) j && (eqb (f .height) (g .height) && eqb (f .layout) (g .layout))
+  pub differ : (f ≡ g → ⊥) → false ≡ same-fields f g
+  differ n = decided (same-fields f g) refl
+    where
+      decided : (v : Bool) → same-fields f g ≡ v → false ≡ same-fields f g
+      decided true e = absurd (n (same-fields-is f g e))
+      decided false e = sym e
 
-  pub height-differs : f .width ≡ g .width → (f .height ≡ g .height → ⊥) → false ≡ same-shape f g
-  unfolding same-shape
-  height-differs e n = λ j. sym (eq-eqb (f .width) (g .width) e) j && (sym (ne-eqb (f .height) (g .height) n) j && eqb (f .layout) (g .layout))
-
-  pub layout-decides : f .width ≡ g .width → f .height ≡ g .height → eqb (f .layout) (g .layout) ≡ same-shape f g
-  unfolding same-shape
-  layout-decides e d = λ j. sym (eq-eqb (f .width) (g .width) e) j && (sym (eq-eqb (f .height) (g .height) d) j && eqb (f .layout) (g .layout))
+  pub threshold-decides : f .width ≡ g .width → f .height ≡ g .height → f .layout ≡ g .layout → f .settings .rounds ≡ g .settings .rounds
+      → eqb (f .settings .threshold) (g .settings .threshold) ≡ same-fields f g
+  unfolding same-fields
+  threshold-decides w h l r =
+      λ j. sym (eq-eqb _ _ w) j && (sym (eq-eqb _ _ h) j && (sym (eq-eqb _ _ l) j && (sym (eq-eqb _ _ r) j && eqb (f .settings .threshold) (g .settings .threshold))))
 
 -- ---- the call
 pub sound-both : (a b : List ℕ) (n : ℕ) → n ≡ ask (repeat-questions a b) → n ≡ 0 → SoundPacket a × SoundPacket b
@@ -81,16 +81,16 @@ sound-both a b n e z =
     let y = all-yes-split (read-questions a) (read-questions b) (all-yes (repeat-questions a b) tt n e z) in
     (sound-by a (y .0), sound-by b (y .1))
 
-module _ (a b : List ℕ) (f g : Fields) (p : f ≡ fields-of a) (q : g ≡ fields-of b) (x : Bool) (e : x ≡ same-shape f g) where
-  compared : (v : Bool) → x ≡ v → v ≡ same-shape (fields-of a) (fields-of b)
-  compared v z = sym z ∙ e ∙ λ k. same-shape (p k) (q k)
+module _ (a b : List ℕ) (f g : Fields) (p : f ≡ fields-of a) (q : g ≡ fields-of b) (x : Bool) (e : x ≡ same-fields f g) where
+  compared : (v : Bool) → x ≡ v → v ≡ same-fields (fields-of a) (fields-of b)
+  compared v z = sym z ∙ e ∙ λ k. same-fields (p k) (q k)
 
-  pub other-shape : x ≡ false → false ≡ repeats a b
+  pub other-fields : x ≡ false → false ≡ repeats a b
   unfolding repeats
-  other-shape z = λ j. compared false z j && same-list (samples-of a) (samples-of b)
+  other-fields z = λ j. compared false z j && same-list (samples-of a) (samples-of b)
 
-  pub same-fields : x ≡ true → SameShape (fields-of a) (fields-of b)
-  same-fields z = same-shape-is (fields-of a) (fields-of b) (sym (compared true z))
+  pub equal-fields : x ≡ true → fields-of a ≡ fields-of b
+  equal-fields z = same-fields-is (fields-of a) (fields-of b) (sym (compared true z))
 
   -- the samples decide, which stand in the parts s and t
   pub samples-decide : x ≡ true → (s t : List ℕ) → s ≡ sample-part a → t ≡ sample-part b → (y : Bool) → y ≡ same-list (samples-in s) (samples-in t) → y ≡ repeats a b

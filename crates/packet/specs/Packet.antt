@@ -48,9 +48,14 @@ sample-part store = take (trailer-place store - first-place store) (drop (first-
 abbrev pub samples-of : List ℕ → List ℕ
 samples-of store = samples-in (sample-part store)
 
--- ---- packet A repeats packet B when width, height, layout and samples agree
-unfoldable pub same-shape : Fields → Fields → Bool
-same-shape f g = eqb (f .width) (g .width) && (eqb (f .height) (g .height) && eqb (f .layout) (g .layout))
+-- ---- packet A repeats packet B when all fields and all samples agree
+unfoldable pub same-fields : Fields → Fields → Bool
+same-fields f g =
+    eqb (f .width) (g .width)
+    && (eqb (f .height) (g .height)
+    && (eqb (f .layout) (g .layout)
+    && (eqb (f .settings .rounds) (g .settings .rounds)
+    && eqb (f .settings .threshold) (g .settings .threshold))))
 
 unfoldable pub repeats : List ℕ → List ℕ → Bool
-repeats a b = same-shape (fields-of a) (fields-of b) && same-list (samples-of a) (samples-of b)
+repeats a b = same-fields (fields-of a) (fields-of b) && same-list (samples-of a) (samples-of b)

@@ -7,7 +7,7 @@ ghost use lib.ListN.{length};
 ghost use lib.Seq.{sets};
 ghost use Rattle.questions.specs.Questions.{ask, samples-question};
 ghost use Rattle.questions.specs.Calls.{Result};
-ghost use Rattle.packet.specs.Packet.{distance, trailer, trailer-place, fields-of, distance-in, sample-part, samples-of, same-shape};
+ghost use Rattle.packet.specs.Packet.{distance, trailer, trailer-place, fields-of, distance-in, sample-part, samples-of, same-fields};
 ghost use Rattle.packet.specs.Calls.{store-questions, read-questions, mosaic-questions, write-questions, repeat-questions, ReadResult, part-read, mosaic-call, write-call, RepeatResult};
 
 // Document 01's fields: what a packet's trailer says of its frame.
@@ -234,9 +234,9 @@ pub fn write_packet(f: Fields, samples: &[u16], out: &mut [u8]) -> WrittenPacket
 
 // ---- the repeat call
 
-// Whether width, height and layout agree.
-fn same_shape(f: Fields, g: Fields) -> bool
-    ensures { λ r. ⌜ r ≡ same-shape f g ⌝ }
+// Whether all fields agree.
+fn same_fields(f: Fields, g: Fields) -> bool
+    ensures { λ r. ⌜ r ≡ same-fields f g ⌝ }
 {
     if f.width != g.width {
         return false;
@@ -244,7 +244,13 @@ fn same_shape(f: Fields, g: Fields) -> bool
     if f.height != g.height {
         return false;
     }
-    f.layout == g.layout
+    if f.layout != g.layout {
+        return false;
+    }
+    if f.settings.rounds != g.settings.rounds {
+        return false;
+    }
+    f.settings.threshold == g.settings.threshold
 }
 
 // Questions 11, 1, 2, 3, 4, 5, 12, 13 and 9 of the first store, then of the second.
@@ -266,7 +272,8 @@ pub fn repeats_packet(a: &[u8], b: &[u8]) -> Repeat
     if number != 0 {
         return Repeat::Refused(number);
     }
-    if !same_shape(trailer_fields(a), trailer_fields(b)) {
+    let same = same_fields(trailer_fields(a), trailer_fields(b));
+    if !same {
         return Repeat::No;
     }
     if little_endian::same_samples(sample_part(a), sample_part(b)) {

@@ -8,7 +8,7 @@ use denote.Ref.{now}
 use Rattle.integers.proofs.Tests.{not-is}
 use Rattle.packet.specs.Packet.{repeats}
 use Rattle.packet.proofs.Stores.{SoundPacket, length-part}
-use Rattle.packet.proofs.Repeating.{sound-both, same-fields, other-shape, samples-decide, repeat-no, repeat-yes}
+use Rattle.packet.proofs.Repeating.{sound-both, equal-fields, other-fields, samples-decide, repeat-no, repeat-yes}
 use borrow.Author.Needs.{needs}
 use Rattle.packet.proofs.repeats_packet.Statement.{statement}
 use Rattle.packet.proofs.repeats_packet.Tie as tie
@@ -32,8 +32,8 @@ trailer-fields-requires c κs = known c .0 .at .long
 trailer-fields-requires-2 : tie.Need-trailer-fields-requires-2
 trailer-fields-requires-2 c κs = known (c .before) .1 .at .long
 
-same-shape-requires : tie.Need-same-shape-requires
-same-shape-requires c κs = search needs
+same-fields-requires : tie.Need-same-fields-requires
+same-fields-requires c κs = search needs
 
 returns-2 : tie.Need-returns-2
 returns-2 c =
@@ -41,7 +41,7 @@ returns-2 c =
     let e = s .before .before .before in
     let a = e .before .before .before .before .args in
     repeat-yes (now (a .a)) (now (a .b)) _ (e .before .repeat-refusal .ensures) (e .if1 .left) false
-    (other-shape (now (a .a)) (now (a .b)) _ _ (s .before .before .trailer-fields .ensures) (s .before .trailer-fields2 .ensures) _ (s .same-shape .ensures) (not-is (s .same-shape .result) true (c .if2 .taken)))
+    (other-fields (now (a .a)) (now (a .b)) _ _ (s .before .before .trailer-fields .ensures) (s .before .trailer-fields2 .ensures) _ (s .same-fields .ensures) (not-is (s .same-fields .result) true (c .if2 .taken)))
 
 sample-part-requires : tie.Need-sample-part-requires
 sample-part-requires c κs = known (c .before .before .before .before) .0 .at .asked
@@ -55,9 +55,9 @@ same-samples-requires c κs =
     let s = t .before in
     let k = known (s .before .before .before) in
     let a = s .before .before .before .before .before .before .before .args in
-    let f = same-fields (now (a .a)) (now (a .b)) _ _ (s .before .before .trailer-fields .ensures) (s .before .trailer-fields2 .ensures) _ (s .same-shape .ensures) (not-is (s .same-shape .result) false (t .if2 .left)) in
+    let f = equal-fields (now (a .a)) (now (a .b)) _ _ (s .before .before .trailer-fields .ensures) (s .before .trailer-fields2 .ensures) _ (s .same-fields .ensures) (not-is (s .same-fields .result) false (t .if2 .left)) in
     ap length (c .before .sample-part .ensures) ∙ length-part (now (a .a)) (k .0 .at)
-    ∙ (λ j. 2 * (f .width j * f .height j))
+    ∙ (λ j. 2 * (f j .width * f j .height))
     ∙ sym (ap length (c .sample-part2 .ensures) ∙ length-part (now (a .b)) (k .1 .at))
 
 -- whether the packets repeat, as the comparison answers it
@@ -66,7 +66,7 @@ decided c =
     let t = c .before .before .before in
     let s = t .before in
     let a = s .before .before .before .before .before .before .before .args in
-    samples-decide (now (a .a)) (now (a .b)) _ _ (s .before .before .trailer-fields .ensures) (s .before .trailer-fields2 .ensures) _ (s .same-shape .ensures) (not-is (s .same-shape .result) false (t .if2 .left)) _ _ (c .before .before .sample-part .ensures) (c .before .sample-part2 .ensures) _ (c .same-samples .ensures)
+    samples-decide (now (a .a)) (now (a .b)) _ _ (s .before .before .trailer-fields .ensures) (s .before .trailer-fields2 .ensures) _ (s .same-fields .ensures) (not-is (s .same-fields .result) false (t .if2 .left)) _ _ (c .before .before .sample-part .ensures) (c .before .sample-part2 .ensures) _ (c .same-samples .ensures)
 
 returns-3 : tie.Need-returns-3
 returns-3 c =
@@ -88,7 +88,7 @@ repeats-packet-spec =
     returns
     trailer-fields-requires
     trailer-fields-requires-2
-    same-shape-requires
+    same-fields-requires
     returns-2
     sample-part-requires
     sample-part-requires-2
