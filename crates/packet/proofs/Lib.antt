@@ -1,4 +1,4 @@
 pub mod Stores
 pub mod Writing
-pub mod RoundTrips
 pub mod Repeating
+pub mod RoundTrips

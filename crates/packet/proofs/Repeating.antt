@@ -1,9 +1,10 @@
 -- What "packet A repeats packet B" says, both ways, and what the repeat call shows at its returns. Assumes nothing.
-use Prim.Native.Nat.{ℕ}
+use Prim.Native.Nat.{ℕ, _*_}
 use mathlib.Core.Path.{_≡_, refl, sym, ap, _∙_}
 use mathlib.Core.Bool.{Bool, true, false, cond, _&&_}
 use mathlib.Core.List.{List}
 use lib.Dec.{T, eqb, eqb→eq}
+use lib.ListN.{length}
 use borrow.Author.Tests.{eq-eqb}
 use Rattle.integers.specs.Lists.{same-list}
 use Rattle.integers.proofs.Lists.{same-list-yes, same-list-is}
@@ -16,7 +17,7 @@ use Rattle.packet.specs.Packet.{fields-of, sample-part, samples-of, same
 use Rattle.packet.specs.Calls.{read-questions, repeat-questions, number-of-repeat, RepeatResult}
 use Rattle.packet.specs.declared.Fields.{Fields}
 use Rattle.packet.specs.declared.Repeat.the-variants.{Yes, No, Refused}
-use Rattle.packet.proofs.Stores.{SoundPacket, sound-by}
+use Rattle.packet.proofs.Stores.{SoundPacket, sound-by, length-part}
 
 -- ---- both ways
 pub same-fields-is : (f g : Fields) → same-fields f g ≡ true → f ≡ g
@@ -81,22 +82,22 @@ sound-both a b n e z =
     let y = all-yes-split (read-questions a) (read-questions b) (all-yes (repeat-questions a b) tt n e z) in
     (sound-by a (y .0), sound-by b (y .1))
 
-module _ (a b : List ℕ) (f g : Fields) (p : f ≡ fields-of a) (q : g ≡ fields-of b) (x : Bool) (e : x ≡ same-fields f g) where
-  compared : (v : Bool) → x ≡ v → v ≡ same-fields (fields-of a) (fields-of b)
-  compared v z = sym z ∙ e ∙ λ k. same-fields (p k) (q k)
-
-  pub other-fields : x ≡ false → false ≡ repeats a b
+module _ (a b : List ℕ) where
+  pub other-fields : same-fields (fields-of a) (fields-of b) ≡ false → false ≡ repeats a b
   unfolding repeats
-  other-fields z = λ j. compared false z j && same-list (samples-of a) (samples-of b)
+  other-fields e = λ j. sym e j && same-list (samples-of a) (samples-of b)
 
-  pub equal-fields : x ≡ true → fields-of a ≡ fields-of b
-  equal-fields z = same-fields-is (fields-of a) (fields-of b) (sym (compared true z))
+  module _ (e : same-fields (fields-of a) (fields-of b) ≡ true) where
+    -- then there are as many samples
+    pub parts-alike : SoundPacket a → SoundPacket b → length (sample-part a) ≡ length (sample-part b)
+    parts-alike k l =
+        let f = same-fields-is (fields-of a) (fields-of b) e in
+        length-part a (k .at) ∙ (λ j. 2 * (f j .width * f j .height)) ∙ sym (length-part b (l .at))
 
-  -- the samples decide, which stand in the parts s and t
-  pub samples-decide : x ≡ true → (s t : List ℕ) → s ≡ sample-part a → t ≡ sample-part b → (y : Bool) → y ≡ same-list (samples-in s) (samples-in t) → y ≡ repeats a b
-  unfolding repeats
-  samples-decide z s t u v y r =
-      λ j. compared true z j && (r ∙ λ k. same-list (samples-in (u k)) (samples-in (v k))) j
+    -- and they decide, which stand in the parts s and t
+    pub samples-decide : (s t : List ℕ) → s ≡ sample-part a → t ≡ sample-part b → same-list (samples-in s) (samples-in t) ≡ repeats a b
+    unfolding repeats
+    samples-decide s t p q = λ j. sym e j && same-list (samples-in (p j)) (samples-in (q j))
 
 module _ (a b : List ℕ) (n : ℕ) (e : n ≡ ask (repeat-questions a b)) where
   pub repeat-no : (n ≡ 0 → ⊥) → RepeatResult a b (Refused n)

@@ -2,32 +2,38 @@
 -- again is the same bytes. Laws of the definitions, and of what the calls answer. Assumes nothing.
 use Prim.Native.Nat.{ℕ, _+_, _*_, _-_, _^_, _≤_, _<_}
 use mathlib.Core.Path.{_≡_, refl, sym, ap, _∙_, subst}
-use mathlib.Core.Bool.{true}
+use mathlib.Core.Bool.{Bool, true, cond}
 use mathlib.Core.List.{List, [], _∷_, _++_, append-assoc, append-nil}
 use native.Mathlib.Nat.{add-zero}
 use native.Mathlib.Omega.{arith}
+use lib.Dec.{T}
 use lib.ListN.{length, take, drop, length-append, take-append-drop, drop-of-length-le}
 use lib.Seq.{take-at, drop-at, drop-drop}
 use borrow.Author.Tests.{le-leb, eq-eqb}
-use Rattle.integers.proofs.Tests.{true-is}
+use Rattle.integers.specs.Lists.{same-list}
+use Rattle.integers.proofs.Lists.{same-list-yes, same-list-is}
+use Rattle.integers.proofs.Tests.{is-true, true-is, same-test}
 use Rattle.questions.specs.Settings.{ceiling-of}
-use Rattle.questions.specs.Questions.{Question, ask, all-at-most, samples-question}
+use Rattle.questions.specs.Questions.{Question, ask, all-at-most}
 use Rattle.questions.specs.Calls.{Result}
 use Rattle.questions.proofs.Asking.{AllYes, all-yes-both, ask-zero, all-at-most-at, ceiling-fits}
 use Rattle.questions.proofs.Answering.{left-yes, new-left}
 use Rattle.little_endian.specs.Bytes.{bytes-of, number-at, sample-bytes, samples-in}
 use Rattle.little_endian.proofs.Bytes.{Below, below-by, below-take, below-drop, number-at-drop, number-of-bytes, bytes-of-number}
 use Rattle.little_endian.proofs.Samples.{length-sample-bytes, length-samples-in, samples-of-bytes, bytes-of-samples}
-use Rattle.packet.specs.Packet.{distance, trailer, packet, trailer-place, fields-of, distance-in, first-place, sample-part, samples-of}
-use Rattle.packet.specs.Calls.{fields-questions, distance-questions, store-questions, read-questions, filling-questions, mosaic-questions, writing-questions, write-questions, ReadResult, part-read, mosaic-call, write-call}
+use Rattle.packet.specs.Packet.{distance, trailer, packet, trailer-place, fields-of, distance-in, first-place, sample-part, samples-of, packet-in, repeats}
+use Rattle.packet.specs.Calls.{fields-questions, distance-questions, store-questions, ceiling-question, read-questions, filling-questions, mosaic-questions, writing-questions, write-questions, ReadResult, number-of-repeat, part-read, mosaic-call, write-call, RepeatResult}
 use Rattle.packet.specs.RoundTrips.{ReadsBack, WasRead, into-mosaic, as-part}
 use Rattle.packet.specs.declared.Fields.{Fields}
 use Rattle.packet.specs.declared.ReadPacket.{ReadPacket}
 use Rattle.packet.specs.declared.ReadPacket.the-variants.{Sound, Refused}
+use Rattle.packet.specs.declared.Repeat.{Repeat}
+use Rattle.packet.specs.declared.Repeat.the-variants.{Yes, No}
 use Rattle.packet.specs.declared.WrittenPacket.{WrittenPacket}
 use Rattle.packet.specs.declared.WrittenPacket.the-variants as written
 use Rattle.packet.specs.declared.WrittenPacket.the-variants.{Bytes}
-use Rattle.packet.proofs.Stores.{SoundPacket, sound, filling, length-part}
+use Rattle.packet.proofs.Stores.{SoundPacket, sound-by, sound, filling, length-part}
+use Rattle.packet.proofs.Repeating.{repeats-agree, agree-repeats, sound-both}
 use Rattle.packet.proofs.Writing.{Writable, writable, length-packet}
 
 -- samples at most a ceiling that fits two bytes fit them too
@@ -103,7 +109,7 @@ module _ (older : List ℕ) (f : Fields) (s : List ℕ) (room : ℕ) (k : Writab
   samples-back : samples-of Store ≡ s
   samples-back = ap samples-in part-back ∙ samples-of-bytes s (fit-two-bytes (ceiling-of (f .settings)) s (ceiling-fits (f .settings)) (k .small))
 
-  sound-back : ask (read-questions Store) ≡ 0
+  sound-back : SoundPacket Store
   sound-back =
       let fields = subst (λ (g : Fields). AllYes (fields-questions g)) (sym fields-back) (k .fields .answers) in
       let back = distance-questions (distance-in Store) (fields-of Store) (length Store) in
@@ -112,12 +118,12 @@ module _ (older : List ℕ) (f : Fields) (s : List ℕ) (room : ℕ) (k : Writab
         (le-leb (distance-in Store) (length Store) (omega (arith, distance-back, length-store)), tt),
       ) in
       let rest = all-yes-both (fields-questions (fields-of Store)) back fields placed in
-      ask-zero (read-questions Store)
-      (all-yes-both (store-questions Store) (samples-question (ceiling-of (fields-of Store .settings)) (samples-of Store) ∷ []) (le-leb 12 (length Store) (omega (arith, length-store)), rest) ((λ j. all-at-most (ceiling-of (fields-back j .settings)) (samples-back j)) ∙ k .small, tt))
+      sound-by Store
+      (all-yes-both (store-questions Store) (ceiling-question (fields-of Store) (samples-of Store) ∷ []) (le-leb 12 (length Store) (omega (arith, length-store)), rest) ((λ j. all-at-most (ceiling-of (fields-back j .settings)) (samples-back j)) ∙ k .small, tt))
 
--- what is read of a store: this frame
+-- a store's packet is sound, and of this frame
 record Reads (store : List ℕ) (f : Fields) (s : List ℕ) : Type 0 where
-  sound : ask (read-questions store) ≡ 0
+  sound : SoundPacket store
   fields : fields-of store ≡ f
   samples : samples-of store ≡ s
 
@@ -160,7 +166,7 @@ module _ (s : List ℕ) (k : SoundPacket s) (b : Below 256 s) where
   samples-again = bytes-of-samples (sample-part s) (fields-of s .width * fields-of s .height) (length-part s (k .at)) part-bytes
 
   -- the bytes from the first sample on
-  packet-again : packet (fields-of s) (samples-of s) ≡ drop (first-place s) s
+  packet-again : packet (fields-of s) (samples-of s) ≡ packet-in s
   unfolding packet sample-part
   packet-again =
       let a = first-place s in
@@ -179,14 +185,37 @@ module _ (s : List ℕ) (k : SoundPacket s) (b : Below 256 s) where
       (all-yes-both (fields-questions f) (writing-questions f (samples-of s) room) (k .at .fields .answers)
       (eq-eqb (length (samples-of s)) (f .width * f .height) (length-samples-in (sample-part s) (f .width * f .height) (length-part s (k .at))), (k .small, (le-leb (distance f) room h, tt))))
 
+  -- by itself it is read as it was behind its older bytes
+  reads-alone : Reads (packet-in s) (fields-of s) (samples-of s)
+  reads-alone =
+      let f = fields-of s in
+      subst (λ (l : List ℕ). Reads l f (samples-of s)) packet-again (written-reads-back [] f (samples-of s) (distance f) (accepted-again (distance f) (omega arith)))
+
+-- ---- repeats
+-- Two sound packets repeat each other exactly when their bytes are the same, whatever older bytes precede them.
+pub repeats-bytes : (a b : List ℕ) → Below 256 a → Below 256 b → SoundPacket a → SoundPacket b → repeats a b ≡ same-list (packet-in a) (packet-in b)
+repeats-bytes a b p q k l = same-test (repeats a b) (same-list (packet-in a) (packet-in b)) written-alike read-alike
+  where
+    written-alike : T (repeats a b) → T (same-list (packet-in a) (packet-in b))
+    written-alike t =
+        let e = repeats-agree a b (is-true (repeats a b) t) in
+        true-is (same-list-yes (packet-in a) (packet-in b) (sym (packet-again a k p) ∙ (λ j. packet (e .0 j) (e .1 j)) ∙ packet-again b l q))
+
+    read-alike : T (same-list (packet-in a) (packet-in b)) → T (repeats a b)
+    read-alike t =
+        let e = same-list-is (packet-in a) (packet-in b) (is-true (same-list (packet-in a) (packet-in b)) t) in
+        let m = reads-alone a k p in
+        let n = reads-alone b l q in
+        true-is (agree-repeats a b (sym (m .fields) ∙ ap fields-of e ∙ n .fields) (sym (m .samples) ∙ ap samples-of e ∙ n .samples))
+
 -- ---- the calls, one after another
 -- what the three reading calls answer of a store that is read as a frame
 module _ (store : List ℕ) (f : Fields) (s : List ℕ) (h : Reads store f s) where
   fields-read : (r : ReadPacket) → ReadResult store r → r ≡ Sound f
-  fields-read r result = result .accepted (h .sound) ∙ ap (λ (g : Fields). Sound g) (h .fields)
+  fields-read r result = result .accepted (h .sound .asked) ∙ ap (λ (g : Fields). Sound g) (h .fields)
 
   samples-read : (p : List ℕ) → p ≡ part-read store → samples-in p ≡ s
-  samples-read p e = ap samples-in (e ∙ sym (left-yes (read-questions store) (sample-part store) [] 0 (sym (h .sound)) refl)) ∙ h .samples
+  samples-read p e = ap samples-in (e ∙ sym (left-yes (read-questions store) (sample-part store) [] 0 (sym (h .sound .asked)) refl)) ∙ h .samples
 
   mosaic-read : (before : List ℕ) (r : ReadPacket) (after : List ℕ) → length before ≡ f .width * f .height → Result (mosaic-call store before) r after → (r ≡ Sound f) × (after ≡ s)
   mosaic-read before r after e result = (
@@ -194,16 +223,13 @@ module _ (store : List ℕ) (f : Fields) (s : List ℕ) (h : Reads store f s) wh
     new-left (mosaic-call store before) (result .leaves) yes ∙ h .samples,
   )
     where
-      k : SoundPacket store
-      k = sound store 0 (sym (h .sound)) refl
-
       area : length before ≡ fields-of store .width * fields-of store .height
       area = e ∙ ap (λ (g : Fields). g .width * g .height) (sym (h .fields))
 
       yes : ask (mosaic-questions store (length before)) ≡ 0
       yes =
           ask-zero (mosaic-questions store (length before))
-          (all-yes-both (store-questions store) (filling-questions (fields-of store) (samples-of store) (length before)) (k .at .answers) (eq-eqb _ _ area, (k .small, tt)))
+          (all-yes-both (store-questions store) (filling-questions (fields-of store) (samples-of store) (length before)) (h .sound .at .answers) (eq-eqb _ _ area, (h .sound .small, tt)))
 
 -- the length that an accepted writing call answers
 abbrev length-or : ℕ → WrittenPacket → ℕ
@@ -242,42 +268,44 @@ abbrev fields-or : Fields → ReadPacket → Fields
 fields-or f (Sound g) = g
 fields-or f (Refused n) = f
 
--- what was read of a store, by either reader, is what a sound packet in it holds
-record Held (store : List ℕ) (f : Fields) (s : List ℕ) : Type 0 where
-  sound : SoundPacket store
-  fields : f ≡ fields-of store
-  samples : s ≡ samples-of store
-
-held : (store : List ℕ) (f : Fields) (s : List ℕ) → WasRead store f s → Held store f s
-held store f s (into-mosaic before read) = record {
+-- what was read of a store, by either reader, is its packet's frame
+was-read : (store : List ℕ) (f : Fields) (s : List ℕ) → WasRead store f s → Reads store f s
+was-read store f s (into-mosaic before read) = record {
   sound = filling store (length before) 0 (read .answer .number) refl .packet;
-  fields = ap (fields-or f) (read .answer .accepted (sym (read .answer .number)));
-  samples = new-left (mosaic-call store before) (read .leaves) (sym (read .answer .number));
+  fields = sym (ap (fields-or f) (read .answer .accepted (sym (read .answer .number))));
+  samples = sym (new-left (mosaic-call store before) (read .leaves) (sym (read .answer .number)));
 }
-held store f s (as-part read part e copied) = record {
+was-read store f s (as-part read part e copied) = record {
   sound = sound store 0 (read .number) refl;
-  fields = ap (fields-or f) (read .accepted (sym (read .number)));
-  samples = copied ∙ ap samples-in (e ∙ sym (left-yes (read-questions store) (sample-part store) [] 0 (read .number) refl));
+  fields = sym (ap (fields-or f) (read .accepted (sym (read .number))));
+  samples = ap samples-in (left-yes (read-questions store) (sample-part store) [] 0 (read .number) refl ∙ sym e) ∙ sym copied;
 }
 
 -- A packet read and written again is the same bytes: its fields and samples were read of a store of bytes, by either reader, and are
 -- written into a buffer that is long enough. The writer accepts, and the buffer begins with the very bytes of the packet.
 pub read-then-write : (store : List ℕ) → Below 256 store → (f : Fields) (samples : List ℕ) → WasRead store f samples
     → (before : List ℕ) (w : WrittenPacket) (after : List ℕ) → distance f ≤ length before → Result (write-call f samples before) w after
-    → (w ≡ Bytes (distance f)) × (after ≡ drop (first-place store) store ++ drop (distance f) before)
+    → (w ≡ Bytes (distance f)) × (after ≡ packet-in store ++ drop (distance f) before)
 read-then-write store b f samples read before w after h result = (
   result .answer .accepted yes,
   new-left (write-call f samples before) (result .leaves) yes
-      ∙ ap (λ (l : List ℕ). l ++ drop (distance f) before) ((λ j. packet (k .fields j) (k .samples j)) ∙ packet-again store (k .sound) b),
+      ∙ ap (λ (l : List ℕ). l ++ drop (distance f) before) ((λ j. packet (sym (k .fields) j) (sym (k .samples) j)) ∙ packet-again store (k .sound) b),
 )
   where
-    k : Held store f samples
-    k = held store f samples read
+    k : Reads store f samples
+    k = was-read store f samples read
 
     qs : List Question
     qs = write-questions f samples (length before)
 
     yes : ask qs ≡ 0
     yes =
-        (λ j. ask (write-questions (k .fields j) (k .samples j) (length before)))
-        ∙ accepted-again store (k .sound) b (length before) (subst (λ (g : Fields). distance g ≤ length before) (k .fields) h)
+        (λ j. ask (write-questions (sym (k .fields) j) (sym (k .samples) j) (length before)))
+        ∙ accepted-again store (k .sound) b (length before) (subst (λ (g : Fields). distance g ≤ length before) (sym (k .fields)) h)
+
+-- A repeat is the same bytes: an accepted repeat call on two stores of bytes answers whether the packets' own bytes are the same.
+pub repeat-is-same-bytes : (a b : List ℕ) → Below 256 a → Below 256 b → (r : Repeat) → RepeatResult a b r → number-of-repeat r ≡ 0
+    → r ≡ cond (same-list (packet-in a) (packet-in b)) Yes No
+repeat-is-same-bytes a b p q r result z =
+    let k = sound-both a b (number-of-repeat r) (result .number) z in
+    result .accepted (sym (result .number) ∙ z) ∙ ap (λ (x : Bool). cond x Yes No) (repeats-bytes a b p q (k .0) (k .1))

@@ -5,17 +5,17 @@ use mathlib.Core.Bool.{true}
 use mathlib.Core.List.{List, [], _∷_}
 use native.Mathlib.Nat.{add-zero}
 use native.Mathlib.Omega.{arith}
-use lib.Dec.{leb}
+use lib.Dec.{leb, eqb}
 use lib.ListN.{length, getD, take, drop, length-drop}
 use lib.Seq.{length-take-le}
 use borrow.Author.Tests.{le-leb, leb-true, eqb-true}
 use Rattle.questions.specs.Settings.{ceiling-of}
-use Rattle.questions.specs.Questions.{ask, all-at-most, shape-questions, settings-questions, samples-question}
-use Rattle.questions.proofs.Asking.{AllYes, all-yes, all-yes-split, Shape, shape-is, ask-yes, ask-zero, ask-first, ask-later}
+use Rattle.questions.specs.Questions.{question, ask, all-at-most, shape-questions, settings-questions}
+use Rattle.questions.proofs.Asking.{AllYes, all-yes, all-yes-both, all-yes-split, Shape, shape-is, ask-yes, ask-zero, ask-first, ask-then}
 use Rattle.questions.proofs.Answering.{answer-no, answer-yes, left-no, left-yes}
 use Rattle.little_endian.specs.Bytes.{number-at}
 use Rattle.packet.specs.Packet.{distance, trailer-place, fields-of, distance-in, first-place, sample-part, samples-of}
-use Rattle.packet.specs.Calls.{fields-questions, distance-questions, store-questions, read-questions, filling-questions, mosaic-questions, number-of-read, ReadResult, part-read}
+use Rattle.packet.specs.Calls.{fields-questions, distance-questions, store-questions, ceiling-question, read-questions, filling-questions, mosaic-questions, number-of-read, ReadResult, part-read}
 use Rattle.packet.specs.declared.Fields.{Fields}
 use Rattle.packet.specs.declared.ReadPacket.the-variants.{Sound, Refused}
 
@@ -64,13 +64,14 @@ located s n e z = located-by s (all-yes (store-questions s) tt n e z)
 
 -- a sound packet: its samples are at most the ceiling too
 pub record SoundPacket (s : List ℕ) : Type 0 where
+  pub asked : ask (read-questions s) ≡ 0
   pub at : Located s
   pub small : all-at-most (ceiling-of (fields-of s .settings)) (samples-of s) ≡ true
 
 pub sound-by : (s : List ℕ) → AllYes (read-questions s) → SoundPacket s
 sound-by s y =
-    let p = all-yes-split (store-questions s) (samples-question (ceiling-of (fields-of s .settings)) (samples-of s) ∷ []) y in
-    record { at = located-by s (p .0); small = p .1 .0 }
+    let p = all-yes-split (store-questions s) (ceiling-question (fields-of s) (samples-of s) ∷ []) y in
+    record { asked = ask-zero (read-questions s) y; at = located-by s (p .0); small = p .1 .0 }
 
 pub sound : (s : List ℕ) (n : ℕ) → n ≡ ask (read-questions s) → n ≡ 0 → SoundPacket s
 sound s n e z = sound-by s (all-yes (read-questions s) tt n e z)
@@ -83,7 +84,7 @@ pub record FillingPacket (s : List ℕ) (room : ℕ) : Type 0 where
 pub filling : (s : List ℕ) (room n : ℕ) → n ≡ ask (mosaic-questions s room) → n ≡ 0 → FillingPacket s room
 filling s room n e z =
     let p = all-yes-split (store-questions s) (filling-questions (fields-of s) (samples-of s) room) (all-yes (mosaic-questions s room) tt n e z) in
-    record { packet = record { at = located-by s (p .0); small = p .1 .1 .0 }; fit = eqb-true room _ (p .1 .0) }
+    record { packet = sound-by s (all-yes-both (store-questions s) (ceiling-question (fields-of s) (samples-of s) ∷ []) (p .0) (p .1 .1)); fit = eqb-true room _ (p .1 .0) }
 
 -- ---- the trailer and the part, as the code reads them
 module _ (s : List ℕ) (t : ℕ) (e : t ≡ trailer-place s) where
@@ -119,14 +120,14 @@ module _ (s : List ℕ) (f : Fields) (e : f ≡ fields-of s) (n : ℕ) (p : n �
   pub store-rest : n ≡ 0 → (m d : ℕ) → d ≡ distance-in s → m ≡ ask (distance-questions d f (length s)) → m ≡ ask (store-questions s)
   store-rest z m d q r =
       ask-yes (leb 12 (length s)) m 11 _ (le-leb 12 (length s) h)
-      (ask-later (fields-questions (fields-of s)) _ m (all-yes (fields-questions (fields-of s)) tt n (p ∙ ap (λ (g : Fields). ask (fields-questions g)) e) z)
+      (ask-then (fields-questions (fields-of s)) _ n m (p ∙ ap (λ (g : Fields). ask (fields-questions g)) e) tt z
       (r ∙ λ j. ask (distance-questions (q j) (e j) (length s))))
 
--- 7 and 9
+-- 7, of the fields that were read, and 9
 pub mosaic-rest : (s : List ℕ) (room n : ℕ) → n ≡ ask (store-questions s) → n ≡ 0 → (f : Fields) → f ≡ fields-of s
-    → (m : ℕ) → m ≡ ask (filling-questions f (samples-of s) room) → m ≡ ask (mosaic-questions s room)
+    → (m : ℕ) → m ≡ ask (question 7 (eqb room (f .width * f .height)) ∷ ceiling-question (fields-of s) (samples-of s) ∷ []) → m ≡ ask (mosaic-questions s room)
 mosaic-rest s room n e z f q m r =
-    ask-later (store-questions s) _ m (located s n e z .answers) (r ∙ ap (λ (g : Fields). ask (filling-questions g (samples-of s) room)) q)
+    ask-then (store-questions s) _ n m e tt z (r ∙ ap (λ (g : Fields). ask (question 7 (eqb room (g .width * g .height)) ∷ ceiling-question (fields-of s) (samples-of s) ∷ [])) q)
 
 -- ---- the calls
 module _ (s : List ℕ) (n : ℕ) (e : n ≡ ask (read-questions s)) where

@@ -30,13 +30,17 @@ abbrev pub store-questions : List ℕ → List Question
 store-questions store =
     question 11 (leb 12 (length store)) ∷ fields-questions (fields-of store) ++ distance-questions (distance-in store) (fields-of store) (length store)
 
+-- 9 every sample at most the ceiling that the fields give
+abbrev pub ceiling-question : Fields → List ℕ → Question
+ceiling-question f samples = samples-question (ceiling-of (f .settings)) samples
+
 -- the reader: 11, 1, 2, 3, 4, 5, 12, 13, 9
 abbrev pub read-questions : List ℕ → List Question
-read-questions store = store-questions store ++ (samples-question (ceiling-of (fields-of store .settings)) (samples-of store) ∷ [])
+read-questions store = store-questions store ++ (ceiling-question (fields-of store) (samples-of store) ∷ [])
 
 -- 7 mosaic to fill, of `room`, exactly w·h, 9
 abbrev pub filling-questions : Fields → List ℕ → ℕ → List Question
-filling-questions f samples room = question 7 (eqb room (f .width * f .height)) ∷ samples-question (ceiling-of (f .settings)) samples ∷ []
+filling-questions f samples room = question 7 (eqb room (f .width * f .height)) ∷ ceiling-question f samples ∷ []
 
 -- reading into a mosaic of `room`: 11, 1, 2, 3, 4, 5, 12, 13, 7, 9
 abbrev pub mosaic-questions : List ℕ → ℕ → List Question
@@ -45,7 +49,7 @@ mosaic-questions store room = store-questions store ++ filling-questions (fields
 -- 6 given samples exactly w·h, 9, 14 buffer of `room` long enough
 abbrev pub writing-questions : Fields → List ℕ → ℕ → List Question
 writing-questions f samples room =
-    question 6 (eqb (length samples) (f .width * f .height)) ∷ samples-question (ceiling-of (f .settings)) samples ∷ question 14 (leb (distance f) room) ∷ []
+    question 6 (eqb (length samples) (f .width * f .height)) ∷ ceiling-question f samples ∷ question 14 (leb (distance f) room) ∷ []
 
 -- the writer, into a buffer of `room`: 1, 2, 3, 4, 5, 6, 9, 14
 abbrev pub write-questions : Fields → List ℕ → ℕ → List Question

@@ -48,6 +48,10 @@ sample-part store = take (trailer-place store - first-place store) (drop (first-
 abbrev pub samples-of : List ℕ → List ℕ
 samples-of store = samples-in (sample-part store)
 
+-- the packet's own bytes, without the older ones
+abbrev pub packet-in : List ℕ → List ℕ
+packet-in store = drop (first-place store) store
+
 -- ---- packet A repeats packet B when all fields and all samples agree
 unfoldable pub same-fields : Fields → Fields → Bool
 same-fields f g =

@@ -5,10 +5,10 @@ ghost use Prim.Native.Nat.{_+_, _*_, _≤_, _<_};
 ghost use mathlib.Core.List.{[], _∷_};
 ghost use lib.ListN.{length};
 ghost use lib.Seq.{sets};
-ghost use Rattle.questions.specs.Questions.{ask, samples-question};
+ghost use Rattle.questions.specs.Questions.{ask};
 ghost use Rattle.questions.specs.Calls.{Result};
 ghost use Rattle.packet.specs.Packet.{distance, trailer, trailer-place, fields-of, distance-in, sample-part, samples-of, same-fields};
-ghost use Rattle.packet.specs.Calls.{store-questions, read-questions, mosaic-questions, write-questions, repeat-questions, ReadResult, part-read, mosaic-call, write-call, RepeatResult};
+ghost use Rattle.packet.specs.Calls.{store-questions, ceiling-question, read-questions, mosaic-questions, write-questions, repeat-questions, ReadResult, part-read, mosaic-call, write-call, RepeatResult};
 
 // Document 01's fields: what a packet's trailer says of its frame.
 pub struct Fields {
@@ -104,11 +104,13 @@ fn sample_part(store: &[u8]) -> &[u8]
     &store[first..end]
 }
 
-// Question 9 of the packet's samples, where `top` is the ceiling.
-fn samples_refusal(top: u16, store: &[u8]) -> u32
+// Question 9 of the packet's samples.
+fn samples_refusal(store: &[u8]) -> u32
     requires { ⌜ ask (store-questions (now store)) ≡ 0 ⌝ }
-    ensures { λ r. ⌜ r ≡ ask (samples-question top (samples-of (now (store .entry))) ∷ []) ⌝ }
+    ensures { λ r. ⌜ r ≡ ask (ceiling-question (fields-of (now (store .entry))) (samples-of (now (store .entry))) ∷ []) ⌝ }
 {
+    let f = trailer_fields(store);
+    let top = f.settings.ceiling();
     if little_endian::samples_within(top, sample_part(store)) {
         0
     } else {
@@ -124,8 +126,7 @@ pub fn packet_refusal(store: &[u8]) -> u32
     if number != 0 {
         return number;
     }
-    let f = trailer_fields(store);
-    samples_refusal(f.settings.ceiling(), store)
+    samples_refusal(store)
 }
 
 // The reader: the fields of the packet whose end is the store's end.
@@ -162,7 +163,7 @@ fn mosaic_refusal(store: &[u8], room: usize) -> u32
     if room != count {
         return 7;
     }
-    samples_refusal(f.settings.ceiling(), store)
+    samples_refusal(store)
 }
 
 // The packet's samples into a mosaic of exactly as many, and its fields.

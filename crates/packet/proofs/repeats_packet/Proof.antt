@@ -1,14 +1,12 @@
 -- `packet::repeats_packet` meets its contract.
 -- Assumes nothing.
-use mathlib.Core.Path.{_≡_, sym, ap, _∙_}
+use mathlib.Core.Path.{_≡_, sym, _∙_}
 use mathlib.Core.Bool.{true, false}
-use Prim.Native.Nat.{_*_}
-use lib.ListN.{length}
 use denote.Ref.{now}
-use Rattle.integers.proofs.Tests.{not-is}
-use Rattle.packet.specs.Packet.{repeats}
-use Rattle.packet.proofs.Stores.{SoundPacket, length-part}
-use Rattle.packet.proofs.Repeating.{sound-both, equal-fields, other-fields, samples-decide, repeat-no, repeat-yes}
+use Rattle.integers.proofs.Tests.{tested}
+use Rattle.packet.specs.Packet.{fields-of, same-fields, repeats}
+use Rattle.packet.proofs.Stores.{SoundPacket}
+use Rattle.packet.proofs.Repeating.{sound-both, other-fields, parts-alike, samples-decide, repeat-no, repeat-yes}
 use borrow.Author.Needs.{needs}
 use Rattle.packet.proofs.repeats_packet.Statement.{statement}
 use Rattle.packet.proofs.repeats_packet.Tie as tie
@@ -35,38 +33,37 @@ trailer-fields-requires-2 c κs = known (c .before) .1 .at .long
 same-fields-requires : tie.Need-same-fields-requires
 same-fields-requires c κs = search needs
 
+-- what the comparison says of the stores' fields
+fields-compared : (c : tie.After-same-fields) → let a = c .before .before .before .before .before .before .before .args in c .same-fields .result ≡ same-fields (fields-of (now (a .a))) (fields-of (now (a .b)))
+fields-compared c = c .same-fields .ensures ∙ λ j. same-fields (c .before .before .trailer-fields .ensures j) (c .before .trailer-fields2 .ensures j)
+
 returns-2 : tie.Need-returns-2
 returns-2 c =
-    let s = c .before in
-    let e = s .before .before .before in
+    let e = c .before .before .before .before in
     let a = e .before .before .before .before .args in
     repeat-yes (now (a .a)) (now (a .b)) _ (e .before .repeat-refusal .ensures) (e .if1 .left) false
-    (other-fields (now (a .a)) (now (a .b)) _ _ (s .before .before .trailer-fields .ensures) (s .before .trailer-fields2 .ensures) _ (s .same-fields .ensures) (not-is (s .same-fields .result) true (c .if2 .taken)))
+    (other-fields (now (a .a)) (now (a .b)) (tested true (fields-compared (c .before)) (c .if2 .taken)))
 
 sample-part-requires : tie.Need-sample-part-requires
-sample-part-requires c κs = known (c .before .before .before .before) .0 .at .asked
+sample-part-requires c κs = let k = known (c .before .before .before .before) in search needs
 
 sample-part-requires-2 : tie.Need-sample-part-requires-2
-sample-part-requires-2 c κs = known (c .before .before .before .before .before) .1 .at .asked
+sample-part-requires-2 c κs = let k = known (c .before .before .before .before .before) in search needs
 
 same-samples-requires : tie.Need-same-samples-requires
 same-samples-requires c κs =
     let t = c .before .before in
-    let s = t .before in
-    let k = known (s .before .before .before) in
-    let a = s .before .before .before .before .before .before .before .args in
-    let f = equal-fields (now (a .a)) (now (a .b)) _ _ (s .before .before .trailer-fields .ensures) (s .before .trailer-fields2 .ensures) _ (s .same-fields .ensures) (not-is (s .same-fields .result) false (t .if2 .left)) in
-    ap length (c .before .sample-part .ensures) ∙ length-part (now (a .a)) (k .0 .at)
-    ∙ (λ j. 2 * (f j .width * f j .height))
-    ∙ sym (ap length (c .sample-part2 .ensures) ∙ length-part (now (a .b)) (k .1 .at))
+    let e = t .before .before .before .before in
+    let n = parts-alike _ _ (tested false (fields-compared (t .before)) (t .if2 .left)) (known e .0) (known e .1) in
+    let p = c .before .sample-part .ensures in
+    let q = c .sample-part2 .ensures in
+    cc
 
--- whether the packets repeat, as the comparison answers it
+-- whether the packets repeat, as the comparison of their samples answers it
 decided : (c : tie.After-same-samples) → let a = c .before .before .before .before .before .before .before .before .before .before .before .args in c .same-samples .result ≡ repeats (now (a .a)) (now (a .b))
 decided c =
     let t = c .before .before .before in
-    let s = t .before in
-    let a = s .before .before .before .before .before .before .before .args in
-    samples-decide (now (a .a)) (now (a .b)) _ _ (s .before .before .trailer-fields .ensures) (s .before .trailer-fields2 .ensures) _ (s .same-fields .ensures) (not-is (s .same-fields .result) false (t .if2 .left)) _ _ (c .before .before .sample-part .ensures) (c .before .sample-part2 .ensures) _ (c .same-samples .ensures)
+    c .same-samples .ensures ∙ samples-decide _ _ (tested false (fields-compared (t .before)) (t .if2 .left)) _ _ (c .before .before .sample-part .ensures) (c .before .sample-part2 .ensures)
 
 returns-3 : tie.Need-returns-3
 returns-3 c =

@@ -1,22 +1,20 @@
 -- `packet::same_fields` meets its contract.
 -- Assumes nothing.
-use mathlib.Core.Path.{ap}
-use Rattle.packet.specs.declared.Fields.{Fields}
 use Rattle.packet.proofs.Repeating.{differ, threshold-decides}
 use Rattle.packet.proofs.same_fields.Statement.{statement}
 use Rattle.packet.proofs.same_fields.Tie as tie
 
 returns : tie.Need-returns
-returns c = differ _ _ (λ e. c .if1 .taken (ap (λ (x : Fields). x .width) e))
+returns c = differ _ _ (λ e. c .if1 .taken cc)
 
 returns-2 : tie.Need-returns-2
-returns-2 c = differ _ _ (λ e. c .if2 .taken (ap (λ (x : Fields). x .height) e))
+returns-2 c = differ _ _ (λ e. c .if2 .taken cc)
 
 returns-3 : tie.Need-returns-3
-returns-3 c = differ _ _ (λ e. c .if3 .taken (ap (λ (x : Fields). x .layout) e))
+returns-3 c = differ _ _ (λ e. c .if3 .taken cc)
 
 returns-4 : tie.Need-returns-4
-returns-4 c = differ _ _ (λ e. c .if4 .taken (ap (λ (x : Fields). x .settings .rounds) e))
+returns-4 c = differ _ _ (λ e. c .if4 .taken cc)
 
 returns-5 : tie.Need-returns-5
 returns-5 c =
