@@ -3,9 +3,9 @@ use Prim.Native.Nat.{ℕ, _*_}
 use mathlib.Core.Path.{_≡_, refl, sym, ap, _∙_}
 use mathlib.Core.Bool.{Bool, true, false, cond, _&&_}
 use mathlib.Core.List.{List}
-use lib.Dec.{T, eqb, eqb→eq}
+use lib.Dec.{eqb, eqb→eq}
 use lib.ListN.{length}
-use borrow.Author.Tests.{eq-eqb}
+use borrow.Author.Tests.{eq-eqb, eqb-true}
 use Rattle.integers.specs.Lists.{same-list}
 use Rattle.integers.proofs.Lists.{same-list-yes, same-list-is}
 use Rattle.integers.proofs.Tests.{is-true, true-is, and-left, and-right}
@@ -19,37 +19,40 @@ use Rattle.packet.specs.declared.Fields.{Fields}
 use Rattle.packet.specs.declared.Repeat.the-variants.{Yes, No, Refused}
 use Rattle.packet.proofs.Stores.{SoundPacket, sound-by, length-part}
 
--- ---- both ways
+-- ---- the fields
+-- the first of several tests, and the rest
+first-agrees : (x y : ℕ) (rest : Bool) → eqb x y && rest ≡ true → (x ≡ y) × (rest ≡ true)
+first-agrees x y rest e =
+    (eqb→eq x y (and-left (eqb x y) rest (true-is e)), is-true rest (and-right (eqb x y) rest (true-is e)))
+
 pub same-fields-is : (f g : Fields) → same-fields f g ≡ true → f ≡ g
 unfolding same-fields
 same-fields-is f g e =
-    let W = eqb (f .width) (g .width) in
-    let H = eqb (f .height) (g .height) in
-    let L = eqb (f .layout) (g .layout) in
-    let R = eqb (f .settings .rounds) (g .settings .rounds) in
-    let S = eqb (f .settings .threshold) (g .settings .threshold) in
-    let t : T (W && (H && (L && (R && S)))) = true-is e in
-    let h = and-right W (H && (L && (R && S))) t in
-    let l = and-right H (L && (R && S)) h in
-    let r = and-right L (R && S) l in
-    λ j. record {
-      width = eqb→eq (f .width) (g .width) (and-left W (H && (L && (R && S))) t) j;
-      height = eqb→eq (f .height) (g .height) (and-left H (L && (R && S)) h) j;
-      layout = eqb→eq (f .layout) (g .layout) (and-left L (R && S) l) j;
-      settings = record {
-        rounds = eqb→eq (f .settings .rounds) (g .settings .rounds) (and-left R S r) j;
-        threshold = eqb→eq (f .settings .threshold) (g .settings .threshold) (and-right R S r) j;
-      };
-    }
+    let w = first-agrees (f .width) (g .width) _ e in
+    let h = first-agrees (f .height) (g .height) _ (w .1) in
+    let l = first-agrees (f .layout) (g .layout) _ (h .1) in
+    let r = first-agrees (f .settings .rounds) (g .settings .rounds) _ (l .1) in
+    let t = eqb-true (f .settings .threshold) (g .settings .threshold) (r .1) in
+    λ j. record { width = w .0 j; height = h .0 j; layout = l .0 j; settings = record { rounds = r .0 j; threshold = t j } }
+
+pub differ : (f g : Fields) → (f ≡ g → ⊥) → false ≡ same-fields f g
+differ f g n = decided (same-fields f g) refl
+  where
+    decided : (v : Bool) → same-fields f g ≡ v → false ≡ same-fields f g
+    decided true e = absurd (n (same-fields-is f g e))
+    decided false e = sym e
+
+-- where the four before it agree
+pub threshold-decides : (f g : Fields) → f .width ≡ g .width → f .height ≡ g .height → f .layout ≡ g .layout → f .settings .rounds ≡ g .settings .rounds
+    → eqb (f .settings .threshold) (g .settings .threshold) ≡ same-fields f g
+unfolding same-fields
+threshold-decides f g w h l r =
+    λ j. sym (eq-eqb _ _ w) j && (sym (eq-eqb _ _ h) j && (sym (eq-eqb _ _ l) j && (sym (eq-eqb _ _ r) j && eqb (f .settings .threshold) (g .settings .threshold))))
 
 pub same-fields-yes : (f g : Fields) → f ≡ g → same-fields f g ≡ true
-unfolding same-fields
-same-fields-yes f g e =
-    λ j. eq-eqb _ _ (ap (λ (x : Fields). x .width) e) j
-    && (eq-eqb _ _ (ap (λ (x : Fields). x .height) e) j
-    && (eq-eqb _ _ (ap (λ (x : Fields). x .layout) e) j
-    && (eq-eqb _ _ (ap (λ (x : Fields). x .settings .rounds) e) j && eq-eqb _ _ (ap (λ (x : Fields). x .settings .threshold) e) j)))
+same-fields-yes f g e = sym (threshold-decides f g (cc) (cc) (cc) (cc)) ∙ eq-eqb (f .settings .threshold) (g .settings .threshold) cc
 
+-- ---- both ways
 pub repeats-agree : (a b : List ℕ) → repeats a b ≡ true → (fields-of a ≡ fields-of b) × (samples-of a ≡ samples-of b)
 unfolding repeats
 repeats-agree a b e =
@@ -60,21 +63,6 @@ repeats-agree a b e =
 pub agree-repeats : (a b : List ℕ) → fields-of a ≡ fields-of b → samples-of a ≡ samples-of b → repeats a b ≡ true
 unfolding repeats
 agree-repeats a b f s = λ j. same-fields-yes (fields-of a) (fields-of b) f j && same-list-yes (samples-of a) (samples-of b) s j
-
--- ---- one field after another
-module _ (f g : Fields) where
-  pub differ : (f ≡ g → ⊥) → false ≡ same-fields f g
-  differ n = decided (same-fields f g) refl
-    where
-      decided : (v : Bool) → same-fields f g ≡ v → false ≡ same-fields f g
-      decided true e = absurd (n (same-fields-is f g e))
-      decided false e = sym e
-
-  pub threshold-decides : f .width ≡ g .width → f .height ≡ g .height → f .layout ≡ g .layout → f .settings .rounds ≡ g .settings .rounds
-      → eqb (f .settings .threshold) (g .settings .threshold) ≡ same-fields f g
-  unfolding same-fields
-  threshold-decides w h l r =
-      λ j. sym (eq-eqb _ _ w) j && (sym (eq-eqb _ _ h) j && (sym (eq-eqb _ _ l) j && (sym (eq-eqb _ _ r) j && eqb (f .settings .threshold) (g .settings .threshold))))
 
 -- ---- the call
 pub sound-both : (a b : List ℕ) (n : ℕ) → n ≡ ask (repeat-questions a b) → n ≡ 0 → SoundPacket a × SoundPacket b

@@ -1,5 +1,6 @@
 -- A packet that was written reads back as the same frame, also with older bytes before it; a packet that was read and is written
--- again is the same bytes. Laws of the definitions, and of what the calls answer. Assumes nothing.
+-- again is the same bytes; packets that repeat each other are the same bytes. Laws of the definitions, and of what the calls answer.
+-- Assumes nothing.
 use Prim.Native.Nat.{ℕ, _+_, _*_, _-_, _^_, _≤_, _<_}
 use mathlib.Core.Path.{_≡_, refl, sym, ap, _∙_, subst}
 use mathlib.Core.Bool.{Bool, true, cond}

@@ -1,6 +1,6 @@
 -- `packet::mosaic_refusal` meets its contract: the questions before the samples, then 7 and 9.
 -- Assumes nothing.
-use mathlib.Core.Path.{sym, _∙_, subst}
+use mathlib.Core.Path.{sym, subst}
 use native.Mathlib.Omega.{arith}
 use denote.Ref.{now}
 use borrow.Author.Tests.{eq-eqb}
