@@ -190,7 +190,10 @@ static void print_frame(const char *path, const struct frame *frame, const struc
            mean(b->red, count), mean(b->blue, count));
 }
 
-/* Whether the store's packet, which is sound, repeats the last one that was finished. */
+/*
+ * Whether the store's packet, which is sound, repeats the last one that was finished: all fields and all samples agree.
+ * With another threshold, other rounds or another level, the same samples are no repeat, and are finished.
+ */
 static int is_repeat(const struct panel *panel, const struct store *store)
 {
     uint8_t same = 0;

@@ -36,7 +36,7 @@ extern "C" {
 
 /* 4 follows the customer's own versions one to three; the second is the last request of document 02 that is in it. */
 #define DEMOSAIC_VERSION_MAJOR 4
-#define DEMOSAIC_VERSION_MINOR 2
+#define DEMOSAIC_VERSION_MINOR 3
 
 /*
  * ---- Questions
@@ -158,8 +158,9 @@ uint32_t demosaic_packet_write(size_t width, size_t height, uint32_t layout, uin
                                size_t *written);
 
 /*
- * Whether the packet of store `a` repeats that of store `b`: `same` becomes 1 where width, height, layout and samples
- * agree, else 0. Asks 11, 1, 2, 3, 4, 5, 12, 13, 9 of `a`, then of `b`. The two may be one store.
+ * Whether the packet of store `a` repeats that of store `b`: `same` becomes 1 where width, height, layout (with it the
+ * level), rounds, threshold and samples agree, else 0. Older bytes before either packet do not count. Asks 11, 1, 2, 3,
+ * 4, 5, 12, 13, 9 of `a`, then of `b`. The two may be one store.
  */
 uint32_t demosaic_packet_repeats(const uint8_t *a, size_t a_len, const uint8_t *b, size_t b_len, uint8_t *same);
 

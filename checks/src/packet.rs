@@ -171,15 +171,12 @@ pub fn write(fields: &Fields, samples: &[u16], out: &mut [u8]) -> Result<usize, 
     Ok(packet.len())
 }
 
-/// The repeat call: all questions of the first store, then of the second; then whether width, height, layout
-/// and samples agree.
+/// The repeat call: all questions of the first store, then of the second; then whether width, height, layout,
+/// rounds, threshold and samples agree.
 pub fn repeats(a: &[u8], b: &[u8]) -> Result<bool, u32> {
     let (of_a, samples_of_a) = read(a)?;
     let (of_b, samples_of_b) = read(b)?;
-    Ok(of_a.width == of_b.width
-        && of_a.height == of_b.height
-        && of_a.layout == of_b.layout
-        && samples_of_a == samples_of_b)
+    Ok(of_a == of_b && samples_of_a == samples_of_b)
 }
 
 #[cfg(test)]
@@ -308,18 +305,34 @@ mod tests {
     }
 
     #[test]
-    fn rounds_and_threshold_do_not_count_in_a_repeat() {
-        let other = bytes(&Fields { rounds: 64, threshold: 4095, ..PRINTED_FIELDS }, &[100, 50, 50, 20]);
-        assert_eq!(repeats(&PRINTED, &other), Ok(true));
+    fn a_repeat_agrees_in_every_field_and_sample() {
+        let no_repeat = |place: usize, new: &[u8]| {
+            let other = with(&PRINTED, place, new);
+            assert_eq!(repeats(&PRINTED, &other), Ok(false), "{new:?} at {place}");
+            assert_eq!(repeats(&other, &PRINTED), Ok(false), "{new:?} at {place}, the other way round");
+        };
+        assert_eq!(repeats(&PRINTED, &PRINTED), Ok(true));
         for layout in 1..8 {
-            assert_eq!(repeats(&PRINTED, &with(&PRINTED, 12, &[layout])), Ok(false));
+            no_repeat(12, &[layout]);
         }
-        assert_eq!(repeats(&PRINTED, &with(&PRINTED, 6, &[21])), Ok(false));
+        for rounds in [0, 7, 9, 64] {
+            no_repeat(13, &[rounds]);
+        }
+        for threshold in [1_u16, 255, 256, 4095] {
+            no_repeat(14, &threshold.to_le_bytes());
+        }
+        for place in 0..4 {
+            no_repeat(2 * place, &[21]);
+            no_repeat(2 * place + 1, &[15]);
+        }
         // the same samples in another shape
         let wide = bytes(&Fields { width: 3, height: 2, ..PRINTED_FIELDS }, &[1, 2, 3, 4, 5, 6]);
         let high = bytes(&Fields { width: 2, height: 3, ..PRINTED_FIELDS }, &[1, 2, 3, 4, 5, 6]);
         assert_eq!(repeats(&wide, &high), Ok(false));
-        // the first store's refusal comes first
+    }
+
+    #[test]
+    fn the_first_stores_refusal_comes_first() {
         assert_eq!(repeats(&with(&PRINTED, 12, &[8]), &[]), Err(3));
         assert_eq!(repeats(&[], &with(&PRINTED, 12, &[8])), Err(11));
         assert_eq!(repeats(&PRINTED, &with(&PRINTED, 12, &[8])), Err(3));

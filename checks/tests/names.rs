@@ -21,7 +21,7 @@ const LAYOUTS: [(&str, u32); 8] = [
 
 const LIMITS: [(&str, u32); 6] = [
     ("DEMOSAIC_VERSION_MAJOR", 4),
-    ("DEMOSAIC_VERSION_MINOR", 2),
+    ("DEMOSAIC_VERSION_MINOR", 3),
     ("DEMOSAIC_MIN_SIDE", 2),
     ("DEMOSAIC_MAX_SIDE", 2048),
     ("DEMOSAIC_MAX_ROUNDS", 64),

@@ -166,22 +166,32 @@ impl FrameCall for Writing {
     }
 }
 
+/// A sound store's packet alone. Its length is the distance back, 2·w·h + 12.
+fn own_bytes(store: &[u8]) -> &[u8] {
+    let distance = u32::from_le_bytes(store[store.len() - 4..].try_into().unwrap());
+    &store[store.len() - distance as usize..]
+}
+
 /// Asks the library and the reference whether the packet of `a` repeats that of `b`, compares the answers, the number behind
-/// the pointer and the places beside, and hands back the library's answer.
+/// the pointer and the places beside, and hands back the library's answer. It is a repeat where the packets' own bytes are
+/// the same, and nowhere else.
 fn compared_repeats(a: &[u8], b: &[u8], kind: &str) -> Result<bool, u32> {
     let what = || format!("repeats, {kind}: {}; {}", described(a), described(b));
     let [first, second] = [a, b].map(Buffer::given);
     let mut same = Buffer::lent(1);
     let answer = library::packet_repeats(first.inside(), second.inside(), same.number_mut());
-    let due = packet::repeats(a, b);
-    assert_eq!(answer, due.map(|_| ()), "{}", what());
+    let answer = answer.map(|()| *same.number_mut());
+    assert_eq!(answer, packet::repeats(a, b).map(u8::from), "{}", what());
     first.assert_holds(a, "the first store");
     second.assert_holds(b, "the second store");
-    match due {
-        Ok(due) => same.assert_holds(&[u8::from(due)], &what()),
-        Err(_) => same.assert_untouched(&what()),
+    match answer {
+        Ok(answer) => {
+            same.assert_holds(&[answer], kind);
+            assert_eq!(answer == 1, own_bytes(a) == own_bytes(b), "{}", what());
+        }
+        Err(_) => same.assert_untouched(kind),
     }
-    answer.map(|()| *same.number_mut() == 1)
+    answer.map(|answer| answer == 1)
 }
 
 /// As `compared_repeats`, both ways round: where neither is refused, the answers agree.
@@ -192,6 +202,16 @@ fn compared_both_ways(a: &[u8], b: &[u8], kind: &str) -> Result<bool, u32> {
         assert_eq!(other, answer, "the other way round, {kind}");
     }
     answer
+}
+
+/// As `compared_both_ways`, of two packets alone and after older bytes: others before each, as many and not as many.
+fn assert_repeats(chance: &mut Chance, a: &[u8], b: &[u8], due: bool, kind: &str) {
+    let [few, more] = [(1, 10), (11, 20)].map(|(least, most)| chance.between(least, most) as usize);
+    for (before_a, before_b) in [(0, 0), (few, 0), (0, few), (few, few), (few, more)] {
+        let [first, second] =
+            [(a, before_a), (b, before_b)].map(|(packet, count)| [&chance.bytes(count), packet].concat());
+        assert_eq!(compared_both_ways(&first, &second, kind), Ok(due), "{kind}");
+    }
 }
 
 fn all_stores(chance: &mut Chance) -> Stores {
@@ -253,6 +273,10 @@ fn long_packets() {
         let store = chance.after_older_bytes(&packet);
         assert_eq!(compared_fields(&store, "long"), Ok(fields));
         assert_same(&compared_samples(&store, samples.len(), "long").unwrap(), &samples, "long");
+        assert_repeats(chance, &packet, &packet, true, "long");
+        for other in other_settings(&fields) {
+            assert_repeats(chance, &packet, &packet::bytes(&other, &samples), false, "long, another setting");
+        }
     }
 
     let fields = Fields { width: 2048, height: 2048, ..chance.small_fields() };
@@ -266,6 +290,14 @@ fn long_packets() {
     assert_eq!(compared_fields(&packet[1..], "the largest, a byte missing"), Err(13));
     let older_too = [&[255; 5], &packet[..]].concat();
     assert_eq!(compared_repeats(&packet, &older_too, "the largest"), Ok(true));
+    for other in [
+        Fields { layout: fields.layout ^ 4, ..fields },
+        Fields { rounds: (fields.rounds + 1) % 65, ..fields },
+        Fields { threshold: fields.threshold ^ 1, ..fields },
+    ] {
+        let other = packet::bytes(&other, &samples);
+        assert_eq!(compared_repeats(&older_too, &other, "the largest, another setting"), Ok(false));
+    }
     let short = Writing { out: packet.len() - 1, ..Writing::of(&fields, &samples) };
     assert_eq!(short.number("the largest, a byte less"), 14);
     for (place, value) in TRIES_IN_THE_LARGEST {
@@ -365,35 +397,49 @@ fn refused_writings() {
     });
 }
 
-/// Packets that differ in one thing only: rounds and threshold do not count, all else does.
+/// Numbers up to `most` other than this one: by one, in one bit, in the low byte, in the high byte, and the ends.
+fn others(number: u32, most: u32) -> impl Iterator<Item = u32> {
+    let one_bit = (0..12).map(move |bit| number ^ 1 << bit);
+    let further = [number + 1, number.wrapping_sub(1), number ^ 0xff, number ^ 0xf00, 0, most];
+    one_bit.chain(further).filter(move |&other| other != number && other <= most)
+}
+
+/// These fields with another layout or level, with other rounds, or with another threshold.
+fn other_settings(fields: &Fields) -> Vec<Fields> {
+    let layouts = (0..8).filter(|&layout| layout != fields.layout);
+    let of_layouts = layouts.map(|layout| Fields { layout, ..*fields });
+    let of_rounds = others(fields.rounds, 64).map(|rounds| Fields { rounds, ..*fields });
+    let of_thresholds = others(fields.threshold, 4095).map(|threshold| Fields { threshold, ..*fields });
+    of_layouts.chain(of_rounds).chain(of_thresholds).collect()
+}
+
+/// Packets that differ in one thing only, and in nothing.
 #[test]
 fn repeats_but_for_one_thing() {
     let chance = &mut Chance(0xda94_2042_e4dd_58b5);
-    for _ in 0..600 {
+    for _ in 0..200 {
         let fields = chance.small_fields();
-        let Fields { width, height, layout, .. } = fields;
+        let Fields { width, height, .. } = fields;
         let mut samples = chance.samples(width * height);
         let packet = packet::bytes(&fields, &samples);
-        let first = chance.after_older_bytes(&packet);
         let mut against = |other: &Fields, samples: &[u16], due: bool, kind: &str| {
-            let second = chance.after_older_bytes(&packet::bytes(other, samples));
-            assert_eq!(compared_both_ways(&first, &second, kind), Ok(due), "{kind}, {fields:?}, {other:?}");
+            let kind = format!("{kind}, {fields:?}, {other:?}");
+            assert_repeats(chance, &packet, &packet::bytes(other, samples), due, &kind);
         };
-        against(&fields, &samples, true, "older bytes");
-        against(&Fields { rounds: 64 - fields.rounds, ..fields }, &samples, true, "rounds");
-        against(&Fields { threshold: fields.threshold ^ 1, ..fields }, &samples, true, "threshold");
-        against(&Fields { rounds: 0, threshold: 4095, ..fields }, &samples, true, "rounds and threshold");
-        for other in (0..8).filter(|&other| other != layout) {
-            against(&Fields { layout: other, ..fields }, &samples, false, "layout");
+        against(&fields, &samples, true, "nothing");
+        for other in other_settings(&fields) {
+            against(&other, &samples, false, "a setting");
         }
         let exchanged = Fields { width: height, height: width, ..fields };
         against(&exchanged, &samples, width == height, "width and height exchanged");
-        // a row more, a column more: the first samples are the same
-        let more: Vec<u16> = samples.iter().chain(&samples).copied().collect();
-        for (width, height) in [(width, height + 1), (width + 1, height)] {
-            against(&Fields { width, height, ..fields }, &more[..width * height], false, "a line more");
-        }
+        // a row more, a column more: the first samples are the same, or the last ones
         let count = samples.len();
+        let twice = samples.repeat(2);
+        for (width, height) in [(width, height + 1), (width + 1, height)] {
+            let longer = Fields { width, height, ..fields };
+            against(&longer, &twice[..width * height], false, "a line more at the end");
+            against(&longer, &twice[2 * count - width * height..], false, "a line more at the front");
+        }
         for place in [0, count / 2, count - 1] {
             for bit in 0..12 {
                 samples[place] ^= 1 << bit;
@@ -401,6 +447,54 @@ fn repeats_but_for_one_thing() {
                 samples[place] ^= 1 << bit;
             }
         }
+        // the same samples in another order
+        for place in 1..count {
+            samples.swap(place - 1, place);
+            against(&fields, &samples, samples[place - 1] == samples[place], "two samples exchanged");
+            samples.swap(place - 1, place);
+        }
+    }
+}
+
+/// Every byte of a store replaced: an older one does not count, each of the packet's own does.
+#[test]
+fn repeats_but_for_one_byte() {
+    let chance = &mut Chance(0x5851_f42d_4c95_7f2d);
+    let mut no_repeats = 0;
+    for (kind, store) in sound(chance).iter().step_by(5) {
+        let older = store.len() - own_bytes(store).len();
+        for place in 0..store.len() {
+            let mut other = store.clone();
+            other[place] ^= 1 << chance.place(8);
+            let answer = compared_both_ways(store, &other, kind);
+            assert_eq!(answer == Ok(true), place < older, "{kind}, byte {place}");
+            no_repeats += usize::from(answer == Ok(false));
+        }
+    }
+    assert!(no_repeats >= 10_000, "{no_repeats} sound pairs that are no repeats");
+}
+
+/// Settings against each other over the same samples.
+#[test]
+fn repeats_of_every_setting() {
+    let chance = &mut Chance(0x2545_f491_4f6c_dd1d);
+    let samples = chance.samples(4);
+    let compare = |a: [u32; 3], b: [u32; 3]| {
+        let [first, second] = [a, b].map(|[layout, rounds, threshold]| {
+            packet::bytes(&Fields { width: 2, height: 2, layout, rounds, threshold }, &samples)
+        });
+        assert_eq!(compared_repeats(&first, &second, "settings"), Ok(a == b), "{a:?}, {b:?}");
+    };
+    // every layout, and 0 to 2 in the other three bytes: also the same bytes in other places, and the same sums
+    let small = (0..216).map(|set| [set % 8, set / 8 % 3, set / 24 % 3 + 256 * (set / 72)]);
+    let rounds = (0..=64).map(|rounds| [5, rounds, 20]);
+    for settings in [small.collect::<Vec<_>>(), rounds.collect()] {
+        for &a in &settings {
+            settings.iter().for_each(|&b| compare(a, b));
+        }
+    }
+    for threshold in 0..=4095 {
+        others(threshold, 4095).for_each(|other| compare([2, 8, threshold], [2, 8, other]));
     }
 }
 
@@ -425,33 +519,63 @@ fn repeats_in_every_shape() {
     }
 }
 
-/// One store twice, and two that overlap: the second starts later, or ends earlier.
+/// As `compared_both_ways`, of two parts of one buffer, where they stand in it.
+fn compared_in_place(a: &[u8], b: &[u8], kind: &str) -> Result<bool, u32> {
+    for (a, b) in [(b, a), (a, b)] {
+        let mut same = 7;
+        let answer = library::packet_repeats(a, b, &mut same);
+        let due = packet::repeats(a, b);
+        assert_eq!((answer, same), (due.map(|_| ()), due.map_or(7, u8::from)), "{kind}: {}", described(a));
+    }
+    packet::repeats(a, b)
+}
+
+/// One store twice, and two that start or end alike: the second starts later, or ends earlier.
 #[test]
 fn repeats_within_one_store() {
     let chance = &mut Chance(0xc2b2_ae3d_27d4_eb4f);
     for (kind, store) in all_stores(chance).iter().step_by(3) {
-        let mut same = 7;
-        let answer = library::packet_repeats(store, store, &mut same);
-        let sound = packet::refusal(store) == 0;
-        assert_eq!(
-            (answer, same),
-            if sound { (Ok(()), 1) } else { (Err(packet::refusal(store)), 7) },
-            "{kind}"
-        );
-        if sound {
+        let due = match packet::refusal(store) {
+            0 => Ok(true),
+            number => Err(number),
+        };
+        assert_eq!(compared_in_place(store, store, kind), due, "{kind}");
+        if due.is_ok() {
             let older_too = [&[9, 9, 9], &store[..]].concat();
-            let mut same = 7;
-            let answer = library::packet_repeats(&older_too, &older_too[3..], &mut same);
-            assert_eq!((answer, same), (Ok(()), 1), "{kind}");
+            assert_eq!(compared_in_place(&older_too, &older_too[3..], kind), due, "{kind}");
         }
     }
     for _ in 0..200 {
-        let packets = [chance.small_packet(), chance.small_packet()];
-        let both = packets.concat();
-        let mut same = 7;
-        let answer = library::packet_repeats(&both, &both[..packets[0].len()], &mut same);
-        let due = packet::repeats(&packets[1], &packets[0]).map(u8::from);
-        assert_eq!(answer.map(|()| same), due);
+        let fields = chance.small_fields();
+        let samples = chance.samples(fields.width * fields.height);
+        let packet = packet::bytes(&fields, &samples);
+        let others = other_settings(&fields).into_iter().map(|other| packet::bytes(&other, &samples));
+        for second in others.chain([packet.clone(), chance.small_packet()]) {
+            let both = [&packet[..], &second].concat();
+            let found = compared_in_place(&both, &both[..packet.len()], "two packets");
+            assert_eq!(found, Ok(second == packet));
+        }
+    }
+}
+
+/// Two packets that overlap. The bytes come again after each trailer, so that the first one's trailer stands among the second
+/// one's samples; the second one's is its own.
+#[test]
+fn repeats_that_overlap() {
+    let chance = &mut Chance(0x0123_4567_89ab_cdef);
+    for _ in 0..500 {
+        // as the high byte of a sample, the rounds are at most 15
+        let fields = Fields { rounds: chance.between(0, 15) as u32, ..chance.small_fields() };
+        let packet = packet::bytes(&fields, &chance.samples(fields.width * fields.height));
+        let period = 2 * chance.between(6, packet.len() as u64 / 2 - 1) as usize;
+        let mut bytes = packet[packet.len() - period..].repeat(packet.len() / period + 2);
+        let end = bytes.len();
+        assert_eq!(compared_in_place(&bytes[..end - period], &bytes, "overlapping"), Ok(true));
+        for setting in end - 8..end - 4 {
+            bytes[setting] ^= 1;
+            assert_eq!(compared_in_place(&bytes[..end - period], &bytes, "overlapping"), Ok(false));
+            bytes[setting] ^= 1;
+        }
     }
 }
 

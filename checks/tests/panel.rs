@@ -188,7 +188,7 @@ fn stores_of_every_kind() {
 }
 
 /// A packet is skipped where it repeats the last finished one, whatever was refused or skipped between; it is finished where
-/// another was finished between.
+/// anything in it differs, and where another was finished between.
 #[test]
 fn repeats() {
     let chance = &mut Chance(0x0123_4567_89ab_cdef);
@@ -196,24 +196,61 @@ fn repeats() {
         let (width, height) = chance.one_of(&[(3, 2), (4, 5), (2, 6)]);
         let (fields, mut samples) = frame(chance, width, height);
         let packet = packet::bytes(&fields, &samples);
-        let settings = packet::bytes(&Fields { rounds: 0, threshold: 4095, ..fields }, &samples);
-        let layout = packet::bytes(&Fields { layout: fields.layout ^ 3, ..fields }, &samples);
-        let level = packet::bytes(&Fields { layout: fields.layout ^ 4, ..fields }, &samples);
-        let exchanged = packet::bytes(&Fields { width: height, height: width, ..fields }, &samples);
-        samples[width * height - 1] ^= 1;
-        let sample = packet::bytes(&fields, &samples);
-        let [refused, cut] = [[&packet[..], &[255]].concat(), packet[1..].to_vec()];
-        let older_too = [&sample[..], &packet].concat();
-        let stores = [
-            &refused, &packet, &packet, &settings, &refused, &older_too, &cut, &packet, &layout, &layout,
-            &packet, &exchanged, &exchanged, &packet, &sample, &packet, &packet, &older_too, &level, &level,
-            &packet,
+        let other_fields = [
+            Fields { threshold: fields.threshold ^ 1, ..fields },
+            Fields { rounds: fields.rounds ^ 1, ..fields },
+            Fields { layout: fields.layout ^ 4, ..fields },
+            Fields { layout: fields.layout ^ 3, ..fields },
+            Fields { width: height, height: width, ..fields },
         ];
-        let lines = compared("repeats", turn, stores.map(Clone::clone).to_vec());
+        let mut others = other_fields.map(|other| packet::bytes(&other, &samples)).to_vec();
+        samples[width * height - 1] ^= 1;
+        others.push(packet::bytes(&fields, &samples));
+        let [refused, cut] = [[&packet[..], &[255]].concat(), packet[1..].to_vec()];
+        let older_too = [&others[0][..], &packet].concat();
+        let mut stores =
+            [&refused, &packet, &packet, &refused, &older_too, &cut, &packet].map(Clone::clone).to_vec();
+        for other in others {
+            stores.extend([other.clone(), [&packet[..], &other].concat(), packet.clone()]);
+        }
+        let lines = compared("repeats", turn, stores);
         let skipped: Vec<usize> =
             (1..).zip(&lines).filter(|(_, l)| l.contains("repeats")).map(|(k, _)| k).collect();
-        let due: &[usize] = if turn < 8 { &[3, 4, 6, 8, 10, 13, 17, 18, 20] } else { &[] };
+        let due: &[usize] = if turn < 8 { &[3, 5, 7, 9, 12, 15, 18, 21, 24] } else { &[] };
         assert_eq!(skipped, due, "turn {turn}");
+    }
+}
+
+/// What a line says of its file.
+fn after_name(line: &str) -> String {
+    line.split_once(": ").unwrap().1.to_string()
+}
+
+/// A setting is changed, and nothing else: the next packet is finished with it, and its line is that of another picture. The
+/// packets that repeat are skipped, whatever bytes precede them.
+#[test]
+fn a_changed_setting() {
+    let chance = &mut Chance(0x27d4_eb2f_1656_67c5);
+    let (width, height) = (12, 9);
+    for turn in 0..8 {
+        let fields = Fields { width, height, layout: chance.layout(), rounds: 3, threshold: 20 };
+        let samples = chance.samples(width * height);
+        for changed in [
+            Fields { threshold: fields.threshold + 256, ..fields },
+            Fields { rounds: fields.rounds + 16, ..fields },
+            Fields { layout: fields.layout ^ 4, ..fields },
+        ] {
+            let [before, after] = [fields, changed].map(|fields| packet::bytes(&fields, &samples));
+            let [before_again, after_again] =
+                [&before, &after].map(|packet| chance.after_older_bytes(packet));
+            let lines = compared("a_changed_setting", turn, vec![before, before_again, after, after_again]);
+            let [old, skipped, new, skipped_too] = [0, 1, 2, 3].map(|k| after_name(&lines[k]));
+            assert_eq!([skipped, skipped_too], ["repeats the one before"; 2], "{changed:?}");
+            assert_ne!(old, new, "{changed:?}");
+            let rounds = fields.rounds + changed.rounds;
+            let tally = format!("finished 2, refused 0, rounds {rounds}; not read 0, not turned 0");
+            assert_eq!(lines[4], tally, "{changed:?}");
+        }
     }
 }
 
@@ -222,7 +259,6 @@ fn repeats() {
 #[test]
 fn a_mirrored_head() {
     let chance = &mut Chance(0xfedc_ba98_7654_3210);
-    let after_name = |line: &String| line.split_once(": ").unwrap().1.to_string();
     for (width, height) in [(2, 2), (3, 2), (5, 4), (4, 4), (16, 9), (40, 33)] {
         let (fields, samples) = frame(chance, width, height);
         let upright = Frame { width, height, layout: fields.layout, samples };

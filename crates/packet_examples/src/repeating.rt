@@ -41,7 +41,7 @@ fn pair(a: &[u8], b: &[u8]) {
     print::end_line();
 }
 
-// Bytes before a packet do not count; a frame of another size is no repeat.
+// Bytes before a packet do not count; a frame of another size or level is no repeat.
 pub(crate) fn sound_pairs() {
     let store = stores::two_by_two();
     let longer = stores::behind_three();
