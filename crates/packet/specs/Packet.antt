@@ -52,7 +52,7 @@ samples-of store = samples-in (sample-part store)
 abbrev pub packet-in : List ℕ → List ℕ
 packet-in store = drop (first-place store) store
 
--- ---- packet A repeats packet B when all fields and all samples agree
+-- ---- packet A repeats packet B when all fields, with the layout the level, and all samples agree
 unfoldable pub same-fields : Fields → Fields → Bool
 same-fields f g =
     eqb (f .width) (g .width)

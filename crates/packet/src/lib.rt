@@ -235,7 +235,7 @@ pub fn write_packet(f: Fields, samples: &[u16], out: &mut [u8]) -> WrittenPacket
 
 // ---- the repeat call
 
-// Whether all fields agree.
+// Whether all fields agree; the level is in the layout.
 fn same_fields(f: Fields, g: Fields) -> bool
     ensures { λ r. ⌜ r ≡ same-fields f g ⌝ }
 {
@@ -265,7 +265,7 @@ fn repeat_refusal(a: &[u8], b: &[u8]) -> u32
     packet_refusal(b)
 }
 
-// The repeat call: whether packet a repeats packet b.
+// The repeat call: whether packet a repeats packet b. Fields come first: where one differs, no sample is compared.
 pub fn repeats_packet(a: &[u8], b: &[u8]) -> Repeat
     ensures { λ r. ⌜ RepeatResult (now (a .entry)) (now (b .entry)) r ⌝ }
 {
