@@ -5,12 +5,12 @@ use mathlib.Core.Bool.{true}
 use mathlib.Core.List.{List, [], _∷_}
 use native.Mathlib.Nat.{add-zero}
 use native.Mathlib.Omega.{arith}
-use lib.Dec.{leb, eqb}
+use lib.Dec.{leb}
 use lib.ListN.{length, getD, take, drop, length-drop}
 use lib.Seq.{length-take-le}
 use borrow.Author.Tests.{le-leb, leb-true, eqb-true}
 use Rattle.questions.specs.Settings.{ceiling-of}
-use Rattle.questions.specs.Questions.{question, ask, all-at-most, shape-questions, settings-questions}
+use Rattle.questions.specs.Questions.{ask, all-at-most, shape-questions, settings-questions}
 use Rattle.questions.proofs.Asking.{AllYes, all-yes, all-yes-both, all-yes-split, Shape, shape-is, ask-yes, ask-zero, ask-first, ask-then}
 use Rattle.questions.proofs.Answering.{answer-no, answer-yes, left-no, left-yes}
 use Rattle.little_endian.specs.Bytes.{number-at}
@@ -123,11 +123,11 @@ module _ (s : List ℕ) (f : Fields) (e : f ≡ fields-of s) (n : ℕ) (p : n �
       (ask-then (fields-questions (fields-of s)) _ n m (p ∙ ap (λ (g : Fields). ask (fields-questions g)) e) tt z
       (r ∙ λ j. ask (distance-questions (q j) (e j) (length s))))
 
--- 7, of the fields that were read, and 9
+-- 7 and 9
 pub mosaic-rest : (s : List ℕ) (room n : ℕ) → n ≡ ask (store-questions s) → n ≡ 0 → (f : Fields) → f ≡ fields-of s
-    → (m : ℕ) → m ≡ ask (question 7 (eqb room (f .width * f .height)) ∷ ceiling-question (fields-of s) (samples-of s) ∷ []) → m ≡ ask (mosaic-questions s room)
+    → (m : ℕ) → m ≡ ask (filling-questions f (samples-of s) room) → m ≡ ask (mosaic-questions s room)
 mosaic-rest s room n e z f q m r =
-    ask-then (store-questions s) _ n m e tt z (r ∙ ap (λ (g : Fields). ask (question 7 (eqb room (g .width * g .height)) ∷ ceiling-question (fields-of s) (samples-of s) ∷ [])) q)
+    ask-then (store-questions s) _ n m e tt z (r ∙ ap (λ (g : Fields). ask (filling-questions g (samples-of s) room)) q)
 
 -- ---- the calls
 module _ (s : List ℕ) (n : ℕ) (e : n ≡ ask (read-questions s)) where

@@ -1,10 +1,14 @@
 -- `packet::mosaic_refusal` meets its contract: the questions before the samples, then 7 and 9.
 -- Assumes nothing.
-use mathlib.Core.Path.{sym, subst}
+use mathlib.Core.Path.{sym, ap, _∙_, subst}
+use mathlib.Core.List.{[], _∷_}
 use native.Mathlib.Omega.{arith}
 use denote.Ref.{now}
 use borrow.Author.Tests.{eq-eqb}
+use Rattle.questions.specs.Questions.{ask}
 use Rattle.questions.proofs.Asking.{asking, ask-first, ask-yes}
+use Rattle.packet.specs.Packet.{samples-of}
+use Rattle.packet.specs.Calls.{ceiling-question}
 use Rattle.packet.specs.declared.Fields.{Fields}
 use Rattle.packet.proofs.Stores.{Allowed, Located, located, mosaic-rest}
 use borrow.Author.Needs.{needs}
@@ -41,8 +45,10 @@ returns-3 : tie.Need-returns-3
 returns-3 c =
     let t = c .before .before .before in
     let e = t .before in
-    mosaic-rest (now (e .before .before .before .args .store)) _ _ (e .before .store-refusal .ensures) (e .if1 .left) _ (t .trailer-fields .ensures) _
-    (ask-yes _ _ _ _ (eq-eqb _ _ (c .before .if2 .left)) (c .samples-refusal .ensures))
+    let s = now (e .before .before .before .args .store) in
+    let nine = c .samples-refusal .ensures ∙ ap (λ (f : Fields). ask (ceiling-question f (samples-of s) ∷ [])) (sym (t .trailer-fields .ensures)) in
+    mosaic-rest s _ _ (e .before .store-refusal .ensures) (e .if1 .left) _ (t .trailer-fields .ensures) _
+    (ask-yes _ _ _ _ (eq-eqb _ _ (c .before .if2 .left)) nine)
 
 pub mosaic-refusal-spec : {M : Type 1} → statement M
 mosaic-refusal-spec =
