@@ -1,13 +1,15 @@
 /*
  * A panel's program: it reads packets, refuses damaged ones, skips repeats, turns a mirrored head's frames, finishes
- * them, with one level or two as each packet says, and keeps the tally. It is C from C99 on, and C++ too.
+ * them, with one level or two as each packet says, reads the bed's spot, and keeps the tally. It is C from C99 on, and
+ * C++ too.
  *
  *     panel TURN FILE...
  *
  * Each FILE holds a packet, which older bytes may precede. TURN is how the head's frames have to be turned to stand
  * upright: 0 not at all, 1 for a head that reads its chip out from right to left, 2 from bottom to top, 3 both; 4 and
  * more exchange rows and columns first. A line is printed for each FILE, and at last the tally of the finishing calls
- * and how many frames were refused before one.
+ * and how many frames were refused before one. The line of a finished frame ends with the bed: its spot, smoothed over
+ * the frames so far, or why there is none.
  */
 
 #include "demosaic.h"
@@ -39,10 +41,17 @@ struct tally {
     uint32_t finished, refused, rounds;
 };
 
-/* The turn of the head, the last store that was finished, the tally, and the refusals that are no part of it. */
+/* What is kept of the bed from frame to frame. */
+struct bed {
+    double red, green, blue;
+    uint8_t lit;
+};
+
+/* The turn of the head, the last store that was finished, the bed, the tally, and the refusals that are no part of it. */
 struct panel {
     uint32_t turn;
     struct store last;
+    struct bed bed;
     struct tally tally;
     size_t not_read, not_turned;
 };
@@ -182,12 +191,41 @@ static void print_refusal(const char *path, uint32_t number)
     printf("%s: refused %" PRIu32 ", %s\n", path, number, demosaic_refusal_text(number));
 }
 
-/* What the panel compares. */
+/* What the panel compares; the bed follows on the same line. */
 static void print_frame(const char *path, const struct frame *frame, const struct buffers *b)
 {
     size_t count = frame->width * frame->height;
-    printf("%s: %zu by %zu, red %" PRIu64 ", blue %" PRIu64 "\n", path, frame->width, frame->height,
+    printf("%s: %zu by %zu, red %" PRIu64 ", blue %" PRIu64 "; ", path, frame->width, frame->height,
            mean(b->red, count), mean(b->blue, count));
+}
+
+/* The window stands in the middle of the frame. A side that is shorter than it leaves no place, and 19 refuses that. */
+static size_t window_place(size_t side)
+{
+    return side < DEMOSAIC_SPOT_SIDE ? 0 : (side - DEMOSAIC_SPOT_SIDE) / 2;
+}
+
+static uint32_t read_bed(struct bed *bed, const struct frame *frame, const struct buffers *b, uint8_t *reading)
+{
+    size_t count = frame->width * frame->height;
+    return demosaic_spot(frame->width, frame->height, b->red, count, b->green, count, b->blue, count,
+                         window_place(frame->height), window_place(frame->width), &bed->red, &bed->green, &bed->blue,
+                         &bed->lit, reading);
+}
+
+static void print_bed(struct bed *bed, const struct frame *frame, const struct buffers *b)
+{
+    uint8_t reading = DEMOSAIC_STARTING;
+    uint32_t number = read_bed(bed, frame, b, &reading);
+    if (number != DEMOSAIC_ACCEPTED) {
+        printf("bed refused %" PRIu32 ", %s\n", number, demosaic_refusal_text(number));
+    } else if (reading == DEMOSAIC_STARTING) {
+        printf("bed starting\n");
+    } else if (reading == DEMOSAIC_DARK) {
+        printf("bed dark\n");
+    } else {
+        printf("bed red %.3f, green %.3f, blue %.3f\n", bed->red, bed->green, bed->blue);
+    }
 }
 
 /*
@@ -234,6 +272,7 @@ static int show_store(struct panel *panel, const char *path, struct store *store
     number = make_planes(panel, store, &frame, &b);
     if (number == DEMOSAIC_ACCEPTED) {
         print_frame(path, &frame, &b);
+        print_bed(&panel->bed, &frame, &b);
         keep(panel, store);
     } else {
         print_refusal(path, number);
@@ -256,7 +295,7 @@ static int read_turn(const char *text, uint32_t *turn)
 
 int main(int argc, char **argv)
 {
-    struct panel panel = {0, {NULL, 0}, {0, 0, 0}, 0, 0};
+    struct panel panel = {0, {NULL, 0}, {0, 0, 0, 0}, {0, 0, 0}, 0, 0};
     int right = 1;
     if (argc < 2 || !read_turn(argv[1], &panel.turn)) {
         fprintf(stderr, "usage: panel TURN FILE...\n");

@@ -36,7 +36,7 @@ extern "C" {
 
 /* 4 follows the customer's own versions one to three; the second is the last request of document 02 that is in it. */
 #define DEMOSAIC_VERSION_MAJOR 4
-#define DEMOSAIC_VERSION_MINOR 3
+#define DEMOSAIC_VERSION_MINOR 4
 
 /*
  * ---- Questions
@@ -57,6 +57,7 @@ enum demosaic_refusal {
     DEMOSAIC_REFUSED_DISTANCE_OUTSIDE = 13, /* the distance back lies within the store? */
     DEMOSAIC_REFUSED_GIVEN_LENGTH = 6,      /* what is given has exactly width * height numbers? */
     DEMOSAIC_REFUSED_FILLED_LENGTH = 7,     /* what is filled (in the rounds, each plane) has exactly width * height? */
+    DEMOSAIC_REFUSED_WINDOW = 19,           /* the spot's window lies wholly inside the frame? */
     DEMOSAIC_REFUSED_WORK_LENGTH = 8,       /* the work buffer has at least 8 * width * height numbers? */
     DEMOSAIC_REFUSED_WIDE_WORK_LENGTH = 18, /* the wide work buffer of a two-level frame likewise? */
     DEMOSAIC_REFUSED_SAMPLE = 9,            /* the samples of the mosaic, or of the packet, are at most 4,095 each? */
@@ -82,6 +83,7 @@ static inline const char *demosaic_refusal_text(uint32_t number)
     case DEMOSAIC_REFUSED_DISTANCE_OUTSIDE: return "distance back reaches outside the store";
     case DEMOSAIC_REFUSED_GIVEN_LENGTH: return "a given buffer's length is not width * height";
     case DEMOSAIC_REFUSED_FILLED_LENGTH: return "a filled buffer's length is not width * height";
+    case DEMOSAIC_REFUSED_WINDOW: return "window not wholly inside the frame";
     case DEMOSAIC_REFUSED_WORK_LENGTH: return "work buffer too short";
     case DEMOSAIC_REFUSED_WIDE_WORK_LENGTH: return "wide work buffer too short";
     case DEMOSAIC_REFUSED_SAMPLE: return "a sample out of range";
@@ -212,6 +214,36 @@ uint32_t demosaic_finish(size_t width, size_t height, uint32_t layout, uint32_t 
 uint32_t demosaic_tally_finished(uint32_t before, uint32_t number);
 uint32_t demosaic_tally_refused(uint32_t before, uint32_t number);
 uint32_t demosaic_tally_rounds(uint32_t before, uint32_t number, uint32_t rounds);
+
+/*
+ * ---- The spot
+ *
+ * The bed, not the picture: the sums of red, green and blue over a window of a finished frame, smoothed from frame to
+ * frame. A frame is lit when its blue sum is above 0. The first lit frame gives its sums; a later one gives, colour by
+ * colour, old + (new - old) * 0.125, each operation rounded once. An unlit frame changes nothing that is kept. So where
+ * every lit frame has the same sums, the spot is the same to the bit from the first of them on.
+ *
+ * The caller keeps four numbers between frames, at first all 0: the spot's red, green and blue, and `lit`, whether a lit
+ * frame has come (0 means no, anything else yes).
+ */
+
+#define DEMOSAIC_SPOT_SIDE 32 /* of the window, in rows and in columns */
+
+enum demosaic_reading {
+    DEMOSAIC_STARTING = 0, /* no lit frame so far, this one included */
+    DEMOSAIC_DARK = 1,     /* this frame is unlit, after a lit one; the old spot is kept */
+    DEMOSAIC_STEADY = 2    /* this frame is lit; the spot is the smoothed one */
+};
+
+/*
+ * Reads the spot of three planes, over the window whose first row and column are `row` and `column`. `reading` becomes
+ * one of the three above, and `lit` 0 or 1; the three floats are written only where the frame is lit, and the first lit
+ * frame does not read them. They may be any floats, a NaN too. Samples may be any numbers of 16 bits. Asks 1, 2, 6 (each
+ * plane), 19, and takes any row and column.
+ */
+uint32_t demosaic_spot(size_t width, size_t height, const uint16_t *red, size_t red_len, const uint16_t *green,
+                       size_t green_len, const uint16_t *blue, size_t blue_len, size_t row, size_t column,
+                       double *spot_red, double *spot_green, double *spot_blue, uint8_t *lit, uint8_t *reading);
 
 /*
  * ---- The parts of finishing, one by one

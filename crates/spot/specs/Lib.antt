@@ -1,0 +1,3 @@
+pub mod Spot
+pub mod Calls
+pub mod Histories
