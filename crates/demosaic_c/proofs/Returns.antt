@@ -4,9 +4,9 @@ use mathlib.Core.Bool.{Bool, true, false, cond}
 use mathlib.Core.List.{List, [], _∷_, _++_}
 use Prim.Native.Nat.{ℕ, zero, suc, _*_, min}
 use native.Mathlib.Omega.{arith}
-use lib.Dec.{leb, eqb}
+use lib.Dec.{leb, ltb, eqb}
 use lib.ListN.{length}
-use Rattle.planes.specs.Planes.{Frame, frame}
+use Rattle.planes.specs.Planes.{Frame, Planes, frame}
 use Rattle.questions.specs.Questions.{Question, question, ask, size-questions}
 use Rattle.questions.specs.Calls.{Answered, Call, Result, Numbered, if-accepted}
 use Rattle.questions.proofs.Asking.{all-yes}
@@ -20,6 +20,14 @@ use Rattle.packet.specs.declared.WrittenPacket.{WrittenPacket}
 use Rattle.packet.specs.declared.WrittenPacket.the-variants as written
 use Rattle.packet.specs.declared.Repeat.{Repeat}
 use Rattle.packet.specs.declared.Repeat.the-variants as repeat
+use Rattle.spot.specs.Spot.{is-lit, kept, lit-spot, next-kept, reading}
+use Rattle.spot.specs.Calls.{SpotGiven, questions-of, sums-of, number-of-spot, accepted, SpotResult}
+use Rattle.spot.specs.declared.Sums.{Sums}
+use Rattle.spot.specs.declared.Kept.{Kept}
+use Rattle.spot.specs.declared.Reading.{Reading}
+use Rattle.spot.specs.declared.Reading.the-variants as spot-reading
+use Rattle.spot.specs.declared.SpotAnswer.{SpotAnswer}
+use Rattle.spot.specs.declared.SpotAnswer.the-variants as spot-answer
 use Rattle.turns.specs.Pictures.{Picture, then-another}
 use Rattle.turns.specs.Frames.{turn-frame}
 use Rattle.turns.specs.Turning.{then-questions, shape-turn-questions, turn-questions, shape-turned, number-of-composed, number-of-extent, number-of-layout, number-of-frame, turn-call}
@@ -31,7 +39,7 @@ use Rattle.turns.specs.declared.TurnedLayout.{TurnedLayout}
 use Rattle.turns.specs.declared.TurnedLayout.the-variants as turned-layout
 use Rattle.turns.specs.declared.TurnedFrame.{TurnedFrame}
 use Rattle.turns.specs.declared.TurnedFrame.the-variants as turned-frame
-use Rattle.demosaic_c.specs.Pointers.{number-call, fields-call, length-call, repeat-call, single-call, shape, shape-of, shape-call, turned-call, places-of}
+use Rattle.demosaic_c.specs.Pointers.{number-call, fields-call, length-call, repeat-call, single-call, shape, shape-of, shape-call, turned-call, places-of, SpotNumbers, number-of-reading, kept-given, reading-call}
 use Rattle.demosaic_c.proofs.Cuts.{cut-asked, cut-kept, carried}
 
 -- ---- What is put into numbers is told by the answer: `value` of the one promised is the new, of a refused one the old. So it is of the answer a
@@ -186,3 +194,37 @@ module _ (turn width height layout : ℕ) {t l : ℕ} (pt : t ≡ min turn 255) 
         kept : (a : TurnedFrame) → (number-of-frame a ≡ 0 → ⊥) → frame-shape-or before a ≡ before
         kept (turned-frame.Accepted w h k) z = absurd (z refl)
         kept (turned-frame.Refused n) z = refl
+
+-- ---- the spot
+abbrev pub spot-or : SpotNumbers → SpotAnswer → SpotNumbers
+spot-or before (spot-answer.Accepted spot-reading.Starting k) = record { spot = before .spot; lit = 0; reading = 0 }
+spot-or before (spot-answer.Accepted spot-reading.Dark k) = record { spot = before .spot; lit = 1; reading = 1 }
+spot-or before (spot-answer.Accepted (spot-reading.Steady s) k) = record { spot = s; lit = 1; reading = 2 }
+spot-or before (spot-answer.Refused n k) = before
+
+-- lit, dark or starting
+spot-put : (before : SpotNumbers) (lit : Bool) (s : Sums) → let k = kept (before .spot) lit in
+    spot-or before (accepted k s) ≡ record { spot = next-kept k s .spot; lit = cond (next-kept k s .lit) 1 0; reading = number-of-reading (reading k s) }
+unfolding next-kept reading
+spot-put before lit s = go lit (is-lit s)
+  where
+    go : (lit b : Bool) → let k = kept (before .spot) lit in
+        let next : Kept = cond b (kept (lit-spot k s) true) k in
+        let found : Reading = cond b (spot-reading.Steady (lit-spot k s)) (cond lit spot-reading.Dark spot-reading.Starting) in
+        spot-or before (spot-answer.Accepted found next) ≡ record { spot = next .spot; lit = cond (next .lit) 1 0; reading = number-of-reading found }
+    go lit true = refl
+    go true false = refl
+    go false false = refl
+
+pub spot-returned : (width height : ℕ) (three : Planes (List ℕ)) (row column : ℕ) (before : SpotNumbers) {r : SpotAnswer} → SpotResult (kept-given width height three row column before) r
+    → (a : SpotAnswer) → r ≡ a → Numbered (reading-call width height three row column before) (number-of-spot a) (spot-or before a)
+spot-returned width height three row column before {r} e =
+    told number-of-spot (questions-of g) (accepted (g .kept) (sums-of g)) r (e .result .answer) (spot-or before) (reading-call width height three row column before .new) before
+    (λ z. spot-put before (ltb 0 (before .lit)) (sums-of g)) (stays r)
+  where
+    g : SpotGiven
+    g = kept-given width height three row column before
+
+    stays : (a : SpotAnswer) → (number-of-spot a ≡ 0 → ⊥) → spot-or before a ≡ before
+    stays (spot-answer.Accepted x k) h = absurd (h refl)
+    stays (spot-answer.Refused n k) h = refl

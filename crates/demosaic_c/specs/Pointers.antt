@@ -2,10 +2,17 @@
 use mathlib.Core.Bool.{cond}
 use mathlib.Core.List.{List}
 use Prim.Native.Nat.{ℕ}
-use Rattle.planes.specs.Planes.{Frame}
+use lib.Dec.{ltb}
+use lib.Ieee.{Float}
+use Rattle.planes.specs.Planes.{Frame, Planes}
 use Rattle.questions.specs.Questions.{Question}
 use Rattle.questions.specs.Calls.{Call}
 use Rattle.questions.specs.declared.Settings.{Settings}
+use Rattle.spot.specs.Spot.{spot, kept, reading}
+use Rattle.spot.specs.Calls.{SpotGiven, spot-given, spot-call, sums-of}
+use Rattle.spot.specs.declared.Spot.{Spot}
+use Rattle.spot.specs.declared.Reading.{Reading}
+use Rattle.spot.specs.declared.Reading.the-variants as spot-reading
 use Rattle.packet.specs.Packet.{distance, fields-of, repeats}
 use Rattle.packet.specs.Calls.{read-questions, repeat-questions, write-call}
 use Rattle.packet.specs.declared.Fields.{Fields}
@@ -59,3 +66,30 @@ turned-call turn f out before = let c = turn-call turn f out in number-call (c .
 abbrev pub places-of : Extent → ℕ
 places-of (extent.Places n) = n
 places-of (extent.Refused number) = 0
+
+-- ---- the spot
+-- what C keeps between frames, the spot and whether a lit frame has come, 0 or not; and a frame's reading
+pub record SpotNumbers : Type 0 where
+  pub spot : Spot
+  pub lit : ℕ
+  pub reading : ℕ
+
+abbrev pub spot-numbers : Float → Float → Float → ℕ → ℕ → SpotNumbers
+spot-numbers red green blue lit reading = record { spot = spot red green blue; lit = lit; reading = reading }
+
+-- 0 starting, 1 dark, 2 steady
+abbrev pub number-of-reading : Reading → ℕ
+number-of-reading spot-reading.Starting = 0
+number-of-reading spot-reading.Dark = 1
+number-of-reading (spot-reading.Steady s) = 2
+
+-- what the call of crate `spot` is given, where C's numbers held `before`
+abbrev pub kept-given : ℕ → ℕ → Planes (List ℕ) → ℕ → ℕ → SpotNumbers → SpotGiven
+kept-given width height three row column before = spot-given width height three row column (kept (before .spot) (ltb 0 (before .lit)))
+
+-- that call; what is kept, and the reading, into those numbers
+abbrev pub reading-call : ℕ → ℕ → Planes (List ℕ) → ℕ → ℕ → SpotNumbers → Call ℕ SpotNumbers
+reading-call width height three row column before =
+    let g = kept-given width height three row column before in
+    let c = spot-call g in
+    number-call (c .questions) (record { spot = c .new .spot; lit = cond (c .new .lit) 1 0; reading = number-of-reading (reading (g .kept) (sums-of g)) }) before

@@ -4,6 +4,10 @@ use packet::ReadPacket;
 use packet::Repeat;
 use packet::WrittenPacket;
 use questions::Settings;
+use spot::Kept;
+use spot::Reading;
+use spot::Spot;
+use spot::SpotAnswer;
 use turns::Composed;
 use turns::Extent;
 use turns::Turn;
@@ -24,7 +28,7 @@ ghost use Rattle.update.specs.Calls.{update-call};
 ghost use Rattle.rounds.specs.Calls.{rounds-call};
 ghost use Rattle.finishing.specs.Calls.{finish-call};
 ghost use Rattle.packet.specs.Calls.{read-questions, mosaic-call};
-ghost use Rattle.demosaic_c.specs.Pointers.{fields, fields-call, length-call, repeat-call, single-call, shape, shape-call, turned-call, places-of};
+ghost use Rattle.demosaic_c.specs.Pointers.{fields, fields-call, length-call, repeat-call, single-call, shape, shape-call, turned-call, places-of, spot-numbers, reading-call};
 
 // A packet's refusal number by the reader's questions, 0 for sound.
 #[no_mangle]
@@ -396,4 +400,58 @@ pub extern "C" fn demosaic_tally_rounds(before: u32, number: u32, rounds: u32) -
     ensures { λ r. ⌜ r ≡ rounds-after before number rounds ⌝ }
 {
     tally::rounds_after(before, number, rounds)
+}
+
+// The reading of three planes' spot, and what is kept, into five numbers; 0 or the refusal's number. The floats are written where the frame is lit,
+// and else not touched, so that they stay to the bit.
+#[no_mangle]
+pub extern "C" fn demosaic_spot(
+    width: usize,
+    height: usize,
+    red: &[u16],
+    green: &[u16],
+    blue: &[u16],
+    row: usize,
+    column: usize,
+    spot_red: &mut f64,
+    spot_green: &mut f64,
+    spot_blue: &mut f64,
+    lit: &mut u8,
+    reading: &mut u8,
+) -> u32
+    ensures { λ r. ⌜ Numbered (reading-call width height (planes (now (red .entry)) (now (green .entry)) (now (blue .entry))) row column (spot-numbers (now («spot_red» .entry)) (now («spot_green» .entry)) (now («spot_blue» .entry)) (now (lit .entry)) (now (reading .entry)))) r (spot-numbers (now («spot_red» .exit)) (now («spot_green» .exit)) (now («spot_blue» .exit)) (now (lit .exit)) (now (reading .exit))) ⌝ }
+{
+    let old = Spot {
+        red: *spot_red,
+        green: *spot_green,
+        blue: *spot_blue,
+    };
+    let kept = Kept {
+        spot: old,
+        lit: 0 < *lit,
+    };
+    let answer = spot::read_spot(width, height, red, green, blue, row, column, kept);
+    match answer {
+        SpotAnswer::Refused(number, _) => number,
+        SpotAnswer::Accepted(found, _) => match found {
+            Reading::Starting => {
+                *lit = 0;
+                *reading = 0;
+                0
+            }
+            Reading::Dark => {
+                *lit = 1;
+                *reading = 1;
+                0
+            }
+            Reading::Steady(new) => {
+                *spot_red = new.red;
+                *spot_green = new.green;
+                *spot_blue = new.blue;
+                *lit = 1;
+                *reading = 2;
+                0
+            }
+        },
+    }
 }
