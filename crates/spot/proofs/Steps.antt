@@ -1,5 +1,5 @@
 -- The laws of a step: what a lit frame leaves and answers, and what an unlit one does. Assumes nothing.
-use mathlib.Core.Path.{_≡_, sym, ap, _∙_}
+use mathlib.Core.Path.{_≡_, refl, sym, ap, _∙_}
 use mathlib.Core.Bool.{Bool, true, false, cond}
 use Rattle.spot.specs.Spot.{spot-of, smooth-spot, is-lit, kept, lit-spot, next-kept, reading}
 use Rattle.spot.specs.Calls.{accepted}
@@ -20,10 +20,8 @@ module _ (k : Kept) (s : Sums) where
   -- ---- the answer to a frame: a lit one, and an unlit one
   pub lit-accepted : is-lit s ≡ true → {new : Spot} → new ≡ lit-spot k s → Accepted (Steady new) (kept new true) ≡ accepted k s
   unfolding next-kept reading
-  lit-accepted h e =
-      (λ i. Accepted (Steady (e i)) (kept (e i) true))
-      ∙ sym (λ i. Accepted (cond (h i) (Steady (lit-spot k s)) (cond (k .lit) Dark Starting)) (cond (h i) (kept (lit-spot k s) true) k))
+  lit-accepted h e = (λ i. Accepted (Steady (e i)) (kept (e i) true)) ∙ sym (rw (h) refl)
 
   pub unlit-accepted : is-lit s ≡ false → (b : Bool) → k .lit ≡ b → Accepted (cond b Dark Starting) k ≡ accepted k s
   unfolding next-kept reading
-  unlit-accepted h b e = sym (λ i. Accepted (cond (h i) (Steady (lit-spot k s)) (cond (e i) Dark Starting)) (cond (h i) (kept (lit-spot k s) true) k))
+  unlit-accepted h b e = sym (rw (h, e) refl)

@@ -10,10 +10,10 @@ spot-refusal-requires : tie.Need-spot-refusal-requires
 spot-refusal-requires c κs = search needs
 
 returns : tie.Need-returns
-returns c = spot-refuses _ (c .before .spot-refusal .ensures) (c .if1 .taken)
+returns c = spot-refuses _ (c .before .spot-refusal .ensures) (λ z. omega (arith, z, c .if1 .taken))
 
 plane-sums-requires : tie.Need-plane-sums-requires
-plane-sums-requires c κs = rooms _ _ _ _ _ (c .before .spot-refusal .ensures) (c .if1 .left)
+plane-sums-requires c κs = rooms _ _ _ _ _ (c .before .spot-refusal .ensures) (omega (arith, c .if1 .left))
 
 next-requires : tie.Need-next-requires
 next-requires c κs = search needs
@@ -21,7 +21,7 @@ next-requires c κs = search needs
 returns-2 : tie.Need-returns-2
 returns-2 c =
     let else = c .before .before in
-    spot-accepts _ (else .before .spot-refusal .ensures) (else .if1 .left) (c .before .plane-sums .ensures) (c .next .ensures)
+    spot-accepts _ (else .before .spot-refusal .ensures) (omega (arith, else .if1 .left)) (c .before .plane-sums .ensures) (c .next .ensures)
 
 pub read-spot-spec : {M : Type 1} → statement M
 read-spot-spec =

@@ -30,7 +30,7 @@ loop-holds c = (omega arith, total-none _, omega arith)
 
 -- the row that the loop is at lies inside the plane
 inside : (c : tie.In-loop Inv-loop μ-loop) → let a = c .before .before .before .args in (a .row + c .before .loop .i) * a .width + a .column + side ≤ length (now (a .plane))
-inside c = row-inside (c .before .before .before .pre) (c .before .loop .i) (c .loop-test .taken)
+inside c = row-inside (c .before .before .before .pre) (c .before .loop .i) (omega (arith, c .loop-test .taken))
 
 add-row-sum : tie.Need-add-row-sum Inv-loop μ-loop
 add-row-sum c = omega (arith, rows-inside (c .before .before .before .pre), c .loop-test .taken)
