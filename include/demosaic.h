@@ -30,7 +30,8 @@ extern "C" {
  *   - each pointer is aligned for its type, and valid for its length or its one number;
  *   - what a call writes (buffers and numbers behind pointers that are not const) overlaps nothing else that the call
  *     is given, and nobody else reads or writes it meanwhile;
- *   - a call may need 160 KiB of stack, and the rounds or the finishing of a two-level frame 512 KiB.
+ *   - a call may need 160 KiB of stack, and the rounds or the finishing of a two-level frame 512 KiB;
+ *   - for the spot, floats are rounded as C starts a program: to nearest, with subnormal numbers.
  * The calls keep nothing and share nothing: several threads may call at once, each with buffers of its own.
  */
 
@@ -237,9 +238,9 @@ enum demosaic_reading {
 
 /*
  * Reads the spot of three planes, over the window whose first row and column are `row` and `column`. `reading` becomes
- * one of the three above, and `lit` 0 or 1; the three floats are written only where the frame is lit, and the first lit
- * frame does not read them. They may be any floats, a NaN too. Samples may be any numbers of 16 bits. Asks 1, 2, 6 (each
- * plane), 19, and takes any row and column.
+ * one of the three above, and `lit` 0 or 1. The three floats may be any, a NaN too; they are written only where the
+ * frame is lit, and the first lit frame takes nothing from them. Samples may be any numbers of 16 bits, rows and columns
+ * any numbers. Asks 1, 2, 6 (each plane), 19.
  */
 uint32_t demosaic_spot(size_t width, size_t height, const uint16_t *red, size_t red_len, const uint16_t *green,
                        size_t green_len, const uint16_t *blue, size_t blue_len, size_t row, size_t column,
