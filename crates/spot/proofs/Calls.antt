@@ -5,9 +5,9 @@ use borrow.Author.Tests.{eqb-true}
 use Rattle.planes.specs.Planes.{Planes}
 use Rattle.questions.specs.Questions.{ask}
 use Rattle.questions.proofs.Asking.{all-yes}
-use Rattle.questions.proofs.Answering.{refuses, accepts}
+use Rattle.questions.proofs.Answering.{refuses, accepts, old-left}
 use Rattle.window.proofs.Room.{room-of}
-use Rattle.spot.specs.Calls.{SpotGiven, spot-questions, questions-of, sums-of, kept-of-spot, accepted, Small, SpotResult, PlanesRoom, PlaneSums}
+use Rattle.spot.specs.Calls.{SpotGiven, spot-questions, questions-of, sums-of, kept-of-spot, accepted, spot-call, Small, SpotResult, PlanesRoom, PlaneSums}
 use Rattle.spot.specs.declared.Sums.{Sums}
 use Rattle.spot.specs.declared.SpotAnswer.{SpotAnswer}
 use Rattle.spot.specs.declared.SpotAnswer.the-variants.{Refused}
@@ -32,3 +32,7 @@ module _ (g : SpotGiven) {n : ℕ} (e : n ≡ ask (questions-of g)) where
   spot-accepts z {s} p {r} q =
       let f : accepted (g .kept) (sums-of g) ≡ r = sym (q ∙ ap (accepted (g .kept)) (p .sums)) in
       subst (SpotResult g) f (record { result = accepts e z refl refl refl; small = λ y. subst Small (p .sums) (p .small) })
+
+-- A refused call keeps the spot, and whether a lit frame has come.
+pub refused-keeps : (g : SpotGiven) {r : SpotAnswer} → SpotResult g r → (ask (questions-of g) ≡ 0 → ⊥) → kept-of-spot r ≡ g .kept
+refused-keeps g e = old-left (spot-call g) (e .result .leaves)

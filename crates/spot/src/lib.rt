@@ -41,22 +41,6 @@ pub enum SpotAnswer {
     Refused(u32, Kept),
 }
 
-impl Kept {
-    // Three zeros, and no lit frame.
-    pub fn start() -> Self
-        ensures { λ r. ⌜ r ≡ start ⌝ }
-    {
-        Self {
-            spot: Spot {
-                red: 0.0,
-                green: 0.0,
-                blue: 0.0,
-            },
-            lit: false,
-        }
-    }
-}
-
 impl Sums {
     // The sums as floats, exactly.
     fn spot(self) -> Spot
@@ -84,6 +68,20 @@ impl Spot {
 }
 
 impl Kept {
+    // Three zeros, and no lit frame.
+    pub fn start() -> Self
+        ensures { λ r. ⌜ r ≡ start ⌝ }
+    {
+        Self {
+            spot: Spot {
+                red: 0.0,
+                green: 0.0,
+                blue: 0.0,
+            },
+            lit: false,
+        }
+    }
+
     // The spot after a lit frame: the first one's own, or the smoothed one.
     fn lit_spot(self, sums: Sums) -> Spot
         ensures { λ r. ⌜ r ≡ lit-spot self sums ⌝ }
@@ -96,7 +94,7 @@ impl Kept {
         new
     }
 
-    // A frame with these sums.
+    // The answer to a frame with these sums.
     fn next(self, sums: Sums) -> SpotAnswer
         ensures { λ r. ⌜ r ≡ accepted self sums ⌝ }
     {
