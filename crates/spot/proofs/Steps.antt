@@ -12,10 +12,10 @@ use Rattle.spot.specs.declared.SpotAnswer.the-variants.{Accepted}
 module _ (k : Kept) (s : Sums) where
   -- ---- a lit frame's spot: after a lit frame, and as the first
   pub later-spot : k .lit ≡ true → {new r : Spot} → r ≡ smooth-spot (k .spot) new → new ≡ spot-of s → r ≡ lit-spot k s
-  later-spot h e p = e ∙ ap (smooth-spot (k .spot)) p ∙ sym (ap (λ (b : Bool). cond b (smooth-spot (k .spot) (spot-of s)) (spot-of s)) h)
+  later-spot h e p = e ∙ ap (smooth-spot (k .spot)) p ∙ sym (rw (h) refl)
 
   pub first-spot : k .lit ≡ false → {new : Spot} → new ≡ spot-of s → new ≡ lit-spot k s
-  first-spot h p = p ∙ sym (ap (λ (b : Bool). cond b (smooth-spot (k .spot) (spot-of s)) (spot-of s)) h)
+  first-spot h p = p ∙ sym (rw (h) refl)
 
   -- ---- the answer to a frame: a lit one, and an unlit one
   pub lit-accepted : is-lit s ≡ true → {new : Spot} → new ≡ lit-spot k s → Accepted (Steady new) (kept new true) ≡ accepted k s
