@@ -7,7 +7,8 @@ use std::path::{Path, PathBuf};
 use std::process::Command;
 
 /// The plain C, each file for one part of the engine.
-const PLAIN_C: [&str; 7] = ["bank", "estimate", "projection", "two_levels", "update", "rounds", "finish"];
+const PLAIN_C: [&str; 8] =
+    ["bank", "estimate", "projection", "two_levels", "update", "rounds", "finish", "spot"];
 
 fn main() {
     let checks = var("CARGO_MANIFEST_DIR").unwrap();

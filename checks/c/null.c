@@ -1,6 +1,7 @@
 /*
  * Makes every call that has buffers with empty ones: for a frame of 2 by 2 and for one of 0 by 0, with one level and with
- * two, each set of the call's buffers has length 0, once as NULL and once with a pointer to numbers. All else is sound.
+ * two, each set of the call's buffers has length 0, once as NULL and once with a pointer to numbers. All else is sound,
+ * but that the spot's window has no room in such a frame.
  *
  * A line is printed each time: the call, the frame's side and layout, the set as a number with a bit for each buffer, and
  * the two answers. Behind the answer of a call that was refused and wrote something all the same, or that wrote into the
@@ -36,7 +37,8 @@ static struct {
     int64_t buffers[MOST][NUMBERS];
     size_t width, height, written;
     uint32_t layout, rounds, threshold;
-    uint8_t same;
+    double red, green, blue;
+    uint8_t same, lit, reading;
 } memory, before;
 
 struct call {
@@ -90,6 +92,12 @@ static uint32_t finish(struct shape f, const struct buffer *b)
                            b[2].len, b[3].start, b[3].len, b[4].start, b[4].len, b[5].start, b[5].len);
 }
 
+static uint32_t spot(struct shape f, const struct buffer *b)
+{
+    return demosaic_spot(f.side, f.side, b[0].start, b[0].len, b[1].start, b[1].len, b[2].start, b[2].len, 0, 0,
+                         &memory.red, &memory.green, &memory.blue, &memory.lit, &memory.reading);
+}
+
 static uint32_t estimate(struct shape f, const struct buffer *b)
 {
     return demosaic_estimate(f.side, f.side, f.layout, b[0].start, b[0].len, b[1].start, b[1].len, b[2].start,
@@ -128,6 +136,7 @@ static const struct call CALLS[] = {
     {"demosaic_packet_repeats", packet_repeats, 2, 2, {sizeof PACKET, sizeof PACKET}},
     {"demosaic_turn", turn, 0, 2, {4, 4}},
     {"demosaic_finish", finish, 0, 6, {4, 4, 4, 4, DEMOSAIC_WORK_LEN(2, 2), NUMBERS}},
+    {"demosaic_spot", spot, 0, 3, {4, 4, 4}},
     {"demosaic_estimate", estimate, 0, 4, {4, 4, 4, 4}},
     {"demosaic_update", update, 0, 3, {4, 4, DEMOSAIC_WORK_LEN(2, 2)}},
     {"demosaic_rounds", rounds, 0, 6, {4, 4, 4, 4, DEMOSAIC_WORK_LEN(2, 2), NUMBERS}},

@@ -42,6 +42,11 @@ uint32_t PLAIN(finish)(size_t width, size_t height, uint32_t layout, uint32_t ro
                        uint16_t *green, size_t green_length, uint16_t *blue, size_t blue_length,
                        int32_t *work, size_t work_length, int64_t *wide_work, size_t wide_work_length);
 
+uint32_t PLAIN(spot)(size_t width, size_t height, const uint16_t *red, size_t red_length,
+                     const uint16_t *green, size_t green_length, const uint16_t *blue, size_t blue_length,
+                     size_t row, size_t column, double *spot_red, double *spot_green, double *spot_blue,
+                     uint8_t *lit, uint8_t *reading);
+
 /* The samples that a plane is projected on. Their columns stand 1 or 2 apart. */
 struct guide {
     const uint16_t *samples;

@@ -1,6 +1,6 @@
 /*
- * Makes the calls that need the most stack, each on a thread with a stack of its own, and prints a line for each: its
- * name, the layout, and how many bytes of the stack it has written, those of the thread itself left out.
+ * Makes the calls that need the most stack, and the spot's, each on a thread with a stack of its own, and prints a line
+ * for each: its name, the layout, and how many bytes of the stack it has written, those of the thread itself left out.
  */
 
 #define _POSIX_C_SOURCE 200809L
@@ -14,7 +14,7 @@
 #include <string.h>
 
 /* The longest lines, and enough of them. */
-enum { WIDTH = DEMOSAIC_MAX_SIDE, HEIGHT = 24, COUNT = WIDTH * HEIGHT };
+enum { WIDTH = DEMOSAIC_MAX_SIDE, HEIGHT = DEMOSAIC_SPOT_SIDE, COUNT = WIDTH * HEIGHT };
 
 /* Far more than any call needs, and what it holds before. */
 enum { STACK = 1 << 24, UNTOUCHED = 0x5a };
@@ -76,9 +76,20 @@ static uint32_t join(uint32_t layout)
                          COUNT);
 }
 
+/* Lit, and smoothed from the second call on. */
+static uint32_t spot(uint32_t layout)
+{
+    static double of_red, of_green, of_blue;
+    static uint8_t lit, reading;
+    (void)layout;
+    blue[0] = 1;
+    return demosaic_spot(WIDTH, HEIGHT, red, COUNT, green, COUNT, blue, COUNT, 0, 0, &of_red, &of_green, &of_blue, &lit,
+                         &reading);
+}
+
 static const struct call NOTHING = {"nothing", nothing};
-static const struct call CALLS[] = {{"finish", finish},     {"rounds", rounds}, {"update", update},
-                                    {"estimate", estimate}, {"split", split},   {"join", join}};
+static const struct call CALLS[] = {{"finish", finish}, {"rounds", rounds}, {"update", update}, {"estimate", estimate},
+                                    {"split", split},   {"join", join},     {"spot", spot}};
 
 static void *run(void *argument)
 {

@@ -1,6 +1,6 @@
 //! Buffers as the tests hand them over, with places beside them.
 
-use std::fmt::Display;
+use std::fmt::{self, Display, Formatter};
 
 /// How far the places beside a buffer are looked at. It is odd, so that a buffer starts at no round address.
 const BESIDE: usize = 7;
@@ -60,6 +60,29 @@ impl Number for u8 {
 impl Number for usize {
     fn pattern(k: usize) -> usize {
         usize::MAX - k
+    }
+}
+
+/// A float of which every bit counts: those of a NaN, and the sign of 0.
+#[derive(Clone, Copy)]
+pub struct Float(pub f64);
+
+impl PartialEq for Float {
+    fn eq(&self, other: &Float) -> bool {
+        self.0.to_bits() == other.0.to_bits()
+    }
+}
+
+impl Display for Float {
+    fn fmt(&self, out: &mut Formatter) -> fmt::Result {
+        write!(out, "{:016x}", self.0.to_bits())
+    }
+}
+
+impl Number for Float {
+    /// No number.
+    fn pattern(k: usize) -> Float {
+        Float(f64::from_bits(u64::MAX - k as u64))
     }
 }
 

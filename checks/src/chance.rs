@@ -81,6 +81,14 @@ impl Chance {
         numbers
     }
 
+    /// Any float: of any bits, or about as large as a sum of samples, or as small as there are.
+    pub fn any_float(&mut self) -> f64 {
+        let any = self.next();
+        let with_exponent = |exponent: u64| any & !(0x7ff << 52) | exponent << 52;
+        let (middle, small) = (self.between(1000, 1100), self.between(0, 8));
+        f64::from_bits(self.one_of(&[any, with_exponent(middle), with_exponent(small)]))
+    }
+
     pub fn layout(&mut self) -> u32 {
         self.between(0, 7) as u32
     }

@@ -1,5 +1,5 @@
-//! Safe calls over C functions with the parameters of the filter bank, the estimates, the update, the rounds and finishing:
-//! those of the library, and those of the plain C that the benchmark times beside it.
+//! Safe calls over C functions with the parameters of the filter bank, the estimates, the update, the rounds, finishing and
+//! the spot: those of the library, and those of the plain C that the benchmark times beside it.
 
 /// What a call's number says: nothing, or the refusal.
 pub fn answer(number: u32) -> Result<(), u32> {
@@ -9,7 +9,7 @@ pub fn answer(number: u32) -> Result<(), u32> {
     }
 }
 
-/// Declares six C functions, which are named in this order, and a safe call over each.
+/// Declares seven C functions, which are named in this order, and a safe call over each.
 #[macro_export]
 macro_rules! frame_calls {
     (
@@ -18,7 +18,8 @@ macro_rules! frame_calls {
         $demosaic_estimate:ident,
         $demosaic_update:ident,
         $demosaic_rounds:ident,
-        $demosaic_finish:ident
+        $demosaic_finish:ident,
+        $demosaic_spot:ident
     ) => {
         unsafe extern "C" {
             fn $demosaic_split(
@@ -115,6 +116,24 @@ macro_rules! frame_calls {
                 work_len: usize,
                 wide_work: *mut i64,
                 wide_work_len: usize,
+            ) -> u32;
+
+            fn $demosaic_spot(
+                width: usize,
+                height: usize,
+                red: *const u16,
+                red_len: usize,
+                green: *const u16,
+                green_len: usize,
+                blue: *const u16,
+                blue_len: usize,
+                row: usize,
+                column: usize,
+                spot_red: *mut f64,
+                spot_green: *mut f64,
+                spot_blue: *mut f64,
+                lit: *mut u8,
+                reading: *mut u8,
             ) -> u32;
         }
 
@@ -271,6 +290,37 @@ macro_rules! frame_calls {
                     work.len(),
                     wide_work.as_mut_ptr(),
                     wide_work.len(),
+                )
+            })
+        }
+
+        pub fn spot(
+            view: &$crate::spot::View,
+            planes: [&[u16]; 3],
+            spot: [&mut f64; 3],
+            lit: &mut u8,
+            reading: &mut u8,
+        ) -> Result<(), u32> {
+            let [red, green, blue] = planes;
+            let [spot_red, spot_green, spot_blue] = spot;
+            // as in the split; each other pointer is that of one number
+            $crate::frame_calls::answer(unsafe {
+                $demosaic_spot(
+                    view.width,
+                    view.height,
+                    red.as_ptr(),
+                    red.len(),
+                    green.as_ptr(),
+                    green.len(),
+                    blue.as_ptr(),
+                    blue.len(),
+                    view.row,
+                    view.column,
+                    spot_red,
+                    spot_green,
+                    spot_blue,
+                    lit,
+                    reading,
                 )
             })
         }

@@ -8,7 +8,7 @@ use std::fs::read_to_string;
 pub type Prototypes = BTreeMap<String, String>;
 
 /// The names of the numbers, in the documents' order of asking, and their texts.
-pub const REFUSALS: [(&str, u32, &str); 19] = [
+pub const REFUSALS: [(&str, u32, &str); 20] = [
     ("DEMOSAIC_ACCEPTED", 0, "accepted"),
     ("DEMOSAIC_REFUSED_TURN", 16, "turn out of range"),
     ("DEMOSAIC_REFUSED_STORE_LENGTH", 11, "store too short for a packet"),
@@ -21,6 +21,7 @@ pub const REFUSALS: [(&str, u32, &str); 19] = [
     ("DEMOSAIC_REFUSED_DISTANCE_OUTSIDE", 13, "distance back reaches outside the store"),
     ("DEMOSAIC_REFUSED_GIVEN_LENGTH", 6, "a given buffer's length is not width * height"),
     ("DEMOSAIC_REFUSED_FILLED_LENGTH", 7, "a filled buffer's length is not width * height"),
+    ("DEMOSAIC_REFUSED_WINDOW", 19, "window not wholly inside the frame"),
     ("DEMOSAIC_REFUSED_WORK_LENGTH", 8, "work buffer too short"),
     ("DEMOSAIC_REFUSED_WIDE_WORK_LENGTH", 18, "wide work buffer too short"),
     ("DEMOSAIC_REFUSED_SAMPLE", 9, "a sample out of range"),

@@ -24,6 +24,8 @@ pub mod program;
 pub mod projection;
 pub mod refusals;
 pub mod rounds;
+pub mod spot;
+pub mod spot_examples;
 pub mod stores;
 pub mod text;
 pub mod turns;
@@ -31,8 +33,9 @@ pub mod update;
 pub mod worked_examples;
 
 /// The programs of examples, and what each must write.
-pub const EXAMPLES: [(&str, fn() -> String); 3] = [
+pub const EXAMPLES: [(&str, fn() -> String); 4] = [
     ("worked_examples", worked_examples::text),
     ("packet_examples", packet_examples::text),
     ("finishing_examples", finishing_examples::text),
+    ("spot_examples", spot_examples::text),
 ];

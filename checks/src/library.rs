@@ -1,5 +1,5 @@
-//! The C calls of packets, turns, the filter bank, the first estimates, the green update, the rounds, finishing and the
-//! tally.
+//! The C calls of packets, turns, the filter bank, the first estimates, the green update, the rounds, finishing, the tally
+//! and the spot.
 //!
 //! This is no module of the crate: what links the crate would then need the static library. The tests of these calls and the
 //! benchmark take the file in by its path.
@@ -86,7 +86,8 @@ checks::frame_calls!(
     demosaic_estimate,
     demosaic_update,
     demosaic_rounds,
-    demosaic_finish
+    demosaic_finish,
+    demosaic_spot
 );
 
 pub fn packet_fields(

@@ -56,17 +56,20 @@ impl Mosaic<'_> {
     }
 }
 
-/// Questions 1, 2 and 3.
-pub fn shape_refusal(width: usize, height: usize, layout: u32) -> Option<u32> {
+/// Questions 1 and 2.
+pub fn size_refusal(width: usize, height: usize) -> Option<u32> {
     if !(2..=2048).contains(&width) {
         Some(1)
     } else if !(2..=2048).contains(&height) {
         Some(2)
-    } else if layout > 7 {
-        Some(3)
     } else {
         None
     }
+}
+
+/// Questions 1, 2 and 3.
+pub fn shape_refusal(width: usize, height: usize, layout: u32) -> Option<u32> {
+    size_refusal(width, height).or((layout > 7).then_some(3))
 }
 
 /// Whether each value is at most 4,095, for questions 9 and 10.

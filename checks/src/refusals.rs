@@ -113,6 +113,8 @@ pub trait FrameCall: Clone {
     const NAME: &'static str;
     /// Its questions in their order.
     const QUESTIONS: &'static [u32];
+    /// What a sound call is answered where a side of the frame is 2 or 3.
+    const OF_A_SMALL_FRAME: u32 = 0;
 
     /// A call of which every question is answered yes.
     fn sound(chance: &mut Chance, width: usize, height: usize) -> Self;
@@ -161,7 +163,8 @@ fn sizes<C: FrameCall>(chance: &mut Chance, counts: &mut Counts) {
         }
     }
     for (width, height) in [(2, 2), (2, 3), (3, 2), (2048, 2), (2, 2048), (2047, 2), (2, 2047)] {
-        answered(&C::sound(chance, width, height), 0, "an end of the range", counts);
+        let call = C::sound(chance, width, height);
+        answered(&call, C::OF_A_SMALL_FRAME, "an end of the range", counts);
     }
 }
 

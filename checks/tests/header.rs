@@ -14,6 +14,7 @@ fn number(name: &str) -> &'static str {
         "u32" => "uint32_t",
         "i32" => "int32_t",
         "i64" => "int64_t",
+        "f64" => "double",
         _ => panic!("{name} has no type in C here"),
     }
 }
@@ -113,6 +114,8 @@ fn a_wrong_prototype_is_noticed() {
         ("uint32_t", "uint8_t"),
         ("int32_t", "int64_t"),
         ("int64_t", "int32_t"),
+        ("double", "float"),
+        ("double", "uint64_t"),
         ("wide_", ""),
         ("_len", ""),
         ("width, size_t height", "height, size_t width"),

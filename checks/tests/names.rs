@@ -1,5 +1,5 @@
 //! What the header `include/demosaic.h` has beside its prototypes, as a program in C and one in C++ find it: the refusal
-//! numbers by name and their texts, the layouts by name, limits, lengths and version.
+//! numbers by name and their texts, the layouts and the readings by name, limits, lengths and version.
 
 use checks::compiled::{compile, Language, C, C_PLUS_PLUS};
 use checks::header::{refusal_text, Header, REFUSALS};
@@ -19,13 +19,16 @@ const LAYOUTS: [(&str, u32); 8] = [
     ("DEMOSAIC_BGGR_TWO_LEVELS", 7),
 ];
 
-const LIMITS: [(&str, u32); 6] = [
+const READINGS: [(&str, u32); 3] = [("DEMOSAIC_STARTING", 0), ("DEMOSAIC_DARK", 1), ("DEMOSAIC_STEADY", 2)];
+
+const LIMITS: [(&str, u32); 7] = [
     ("DEMOSAIC_VERSION_MAJOR", 4),
-    ("DEMOSAIC_VERSION_MINOR", 3),
+    ("DEMOSAIC_VERSION_MINOR", 4),
     ("DEMOSAIC_MIN_SIDE", 2),
     ("DEMOSAIC_MAX_SIDE", 2048),
     ("DEMOSAIC_MAX_ROUNDS", 64),
     ("DEMOSAIC_MAX_SAMPLE", 4095),
+    ("DEMOSAIC_SPOT_SIDE", 32),
 ];
 
 /// What a program prints that has this before its `main`, and inside it this.
@@ -58,27 +61,34 @@ fn assert_values(name: &str, before: &str, due: &[(String, u64)]) {
     }
 }
 
+fn sorted<'a>(names: impl Iterator<Item = &'a str>) -> Vec<&'a str> {
+    let mut names: Vec<&str> = names.collect();
+    names.sort();
+    names
+}
+
 /// All that the header has: a name that is in none of these lists is tried by no test.
 #[test]
 fn there_is_nothing_else() {
     let header = Header::read();
     let heads: Vec<&str> = header.blocks.iter().map(|(head, _)| &head[..]).collect();
     let text = "static inline const char * demosaic_refusal_text(uint32_t number)";
-    assert_eq!(heads, ["enum demosaic_refusal", text, "enum demosaic_layout"]);
+    assert_eq!(heads, ["enum demosaic_refusal", text, "enum demosaic_layout", "enum demosaic_reading"]);
     let named = |name: &str, number: u32| (name.to_string(), number);
     assert_eq!(header.numbers_of("demosaic_refusal"), REFUSALS.map(|(name, number, _)| named(name, number)));
     assert_eq!(header.numbers_of("demosaic_layout"), LAYOUTS.map(|(name, number)| named(name, number)));
+    assert_eq!(header.numbers_of("demosaic_reading"), READINGS.map(|(name, number)| named(name, number)));
     let macros = header.macros.iter().map(|behind| behind.split([' ', '(']).next().unwrap());
-    let lengths = ["DEMOSAIC_PACKET_BYTES", "DEMOSAIC_WORK_LEN", "DEMOSAIC_WIDE_WORK_LEN"];
-    let due = ["DEMOSAIC_H"].into_iter().chain(LIMITS.map(|(name, _)| name)).chain(lengths);
-    assert!(macros.clone().eq(due), "{:?}", macros.collect::<Vec<_>>());
+    let others =
+        ["DEMOSAIC_H", "DEMOSAIC_PACKET_BYTES", "DEMOSAIC_WORK_LEN", "DEMOSAIC_WIDE_WORK_LEN"].into_iter();
+    assert_eq!(sorted(macros), sorted(others.chain(LIMITS.map(|(name, _)| name))));
 }
 
 /// Alone, and as part of a larger expression.
 #[test]
 fn the_numbers_by_name() {
     let refusals = REFUSALS.map(|(name, number, _)| (name, number));
-    let named = refusals.into_iter().chain(LAYOUTS).chain(LIMITS);
+    let named = refusals.into_iter().chain(LAYOUTS).chain(READINGS).chain(LIMITS);
     let values = |(name, number): (&str, u32)| {
         [(name.to_string(), number.into()), (format!("3 * {name} * 3"), 9 * u64::from(number))]
     };
@@ -95,7 +105,7 @@ fn the_limits_for_the_preprocessor() {
 /// Every number to 1,000, some that are a refusal's in fewer bits, and the largest.
 #[test]
 fn a_text_for_every_number() {
-    let wide = [8, 16, 24, 31].into_iter().flat_map(|bit| (0..20).map(move |low| (1 << bit) + low));
+    let wide = [8, 16, 24, 31].into_iter().flat_map(|bit| (0..21).map(move |low| (1 << bit) + low));
     let numbers: Vec<u32> = (0..=1000).chain(wide).chain(u32::MAX - 20..=u32::MAX).collect();
     let list: String = numbers.iter().map(|number| format!("UINT32_C({number}), ")).collect();
     let before = format!("static const uint32_t numbers[] = {{{list}}};\n");
@@ -109,9 +119,9 @@ fn a_text_for_every_number() {
         }
     }
     // a text of its own for each, and a common one
-    let texts: BTreeSet<&str> = (0..=19).map(refusal_text).collect();
-    assert_eq!(texts.len(), 20);
-    assert!(numbers.iter().all(|&number| number <= 18 || refusal_text(number) == refusal_text(19)));
+    let texts: BTreeSet<&str> = (0..=20).map(refusal_text).collect();
+    assert_eq!(texts.len(), 21);
+    assert!(numbers.iter().all(|&number| number <= 19 || refusal_text(number) == refusal_text(20)));
 }
 
 /// A name says the colours of rows 0 and 1 at columns 0 and 1, and whether there are two levels; these are the reference's.

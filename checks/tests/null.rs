@@ -10,9 +10,12 @@ use std::collections::BTreeMap;
 use std::fmt::Write;
 use std::process::Command;
 
+/// The call that 19 refuses in so small a frame, where no buffer is empty.
+const SPOT: &str = "demosaic_spot";
+
 /// Each call that has buffers, and of each buffer the question that refuses it empty. In every call these stand in the
 /// order of asking.
-const CALLS: [(&str, &[u32]); 12] = [
+const CALLS: [(&str, &[u32]); 13] = [
     ("demosaic_packet_refusal", &[11]),
     ("demosaic_packet_fields", &[11]),
     ("demosaic_packet_samples", &[11, 7]),
@@ -20,6 +23,7 @@ const CALLS: [(&str, &[u32]); 12] = [
     ("demosaic_packet_repeats", &[11, 11]),
     ("demosaic_turn", &[6, 7]),
     ("demosaic_finish", &[6, 7, 7, 7, 8, 18]),
+    (SPOT, &[6, 6, 6]),
     ("demosaic_estimate", &[6, 7, 7, 7]),
     ("demosaic_update", &[6, 6, 8]),
     ("demosaic_rounds", &[6, 7, 7, 7, 8, 18]),
@@ -38,12 +42,13 @@ fn no_call_and_no_buffer_is_left_out() {
 
 /// The number of a call of which the buffers of this set are empty. A frame of no samples is refused by its width, though
 /// its empty buffers are as long as they have to be; a reader is told no width.
-fn number(questions: &[u32], set: usize, side: usize, layout: u32) -> u32 {
+fn number(name: &str, questions: &[u32], set: usize, side: usize, layout: u32) -> u32 {
     if side == 0 && questions[0] != 11 {
         return 1;
     }
     let refused = |k: &usize| set >> k & 1 == 1 && (questions[*k] != 18 || has_two_levels(layout));
-    (0..questions.len()).find(refused).map_or(0, |first| questions[first])
+    let otherwise = if name == SPOT { 19 } else { 0 };
+    (0..questions.len()).find(refused).map_or(otherwise, |first| questions[first])
 }
 
 #[test]
@@ -54,7 +59,7 @@ fn null_is_an_empty_buffer() {
     for (name, questions) in CALLS {
         for set in 0..1 << questions.len() {
             for (side, layout) in [(0, 1), (0, 5), (2, 1), (2, 5)] {
-                let number = number(questions, set, side, layout);
+                let number = number(name, questions, set, side, layout);
                 writeln!(due, "{name}, side {side}, layout {layout}, set {set}: {number} {number}").unwrap();
             }
         }

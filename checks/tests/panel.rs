@@ -1,12 +1,14 @@
 //! The example of a panel's program, `examples/panel.c`, prints what the reference computes of its files: refusals, repeats,
-//! turned and finished frames, the tally, and what was refused before a finishing call.
+//! turned and finished frames, the bed's spot from frame to frame, the tally, and what was refused before a finishing call.
 
 use checks::chance::Chance;
 use checks::compiled::{compile, compiled, C, C_PLUS_PLUS};
 use checks::finishing::{finished_of, Tally};
 use checks::header::{file, refusal_text};
-use checks::mosaics::kinds;
+use checks::mosaics::{filled, kinds};
 use checks::packet::{self, Fields, PRINTED};
+use checks::planes_call::Planes;
+use checks::spot::{spot, Kept, Reading, View, SIDE};
 use checks::stores::{damaged, sound, wrong, QUESTIONS};
 use checks::text::assert_same;
 use checks::turns::{turn_samples, Frame};
@@ -40,8 +42,8 @@ enum Call {
     Finishing,
 }
 
-/// A frame as the panel is to finish it, and the means of its finished red and blue; or which call refuses it.
-fn finished(beyond: Beyond, turn: u32, store: &[u8]) -> Result<(Fields, [u64; 2]), (Call, u32)> {
+/// A frame as the panel is to finish it, and its finished planes; or which call refuses it.
+fn finished(beyond: Beyond, turn: u32, store: &[u8]) -> Result<(Fields, Planes), (Call, u32)> {
     let (fields, part) = packet::read(store).map_err(|number| (Call::Reading, number))?;
     (beyond.samples)(&fields).map_err(|number| (Call::Reading, number))?;
     let samples = packet::samples_of(part);
@@ -50,10 +52,30 @@ fn finished(beyond: Beyond, turn: u32, store: &[u8]) -> Result<(Fields, [u64; 2]
     let (width, height, layout) = shape.map_err(|number| (Call::Turning, number))?;
     let fields = Fields { width, height, layout, ..fields };
     (beyond.finish)(&fields).map_err(|number| (Call::Finishing, number))?;
-    let [red, _, blue] = finished_of(&fields, &mosaic);
-    let mean =
-        |plane: Vec<u16>| plane.iter().map(|&value| u64::from(value)).sum::<u64>() / plane.len() as u64;
-    Ok((fields, [red, blue].map(mean)))
+    Ok((fields, finished_of(&fields, &mosaic)))
+}
+
+fn mean(plane: &[u16]) -> u64 {
+    plane.iter().map(|&value| u64::from(value)).sum::<u64>() / plane.len() as u64
+}
+
+/// What the line of a finished frame says of the bed, which is read in the middle of the frame.
+fn bed_text(bed: &mut Kept, fields: &Fields, planes: &Planes) -> String {
+    let Fields { width, height, .. } = *fields;
+    let [row, column] = [height, width].map(|side| side.saturating_sub(SIDE) / 2);
+    let view = View { width, height, row, column };
+    let (next, reading) = match spot(&view, planes.each_ref().map(|plane| &plane[..]), *bed) {
+        Ok(answer) => answer,
+        Err(number) => return format!("bed refused {number}, {}", refusal_text(number)),
+    };
+    *bed = next;
+    match reading {
+        Reading::Starting => "bed starting".to_string(),
+        Reading::Dark => "bed dark".to_string(),
+        Reading::Steady([red, green, blue]) => {
+            format!("bed red {red:.3}, green {green:.3}, blue {blue:.3}")
+        }
+    }
 }
 
 /// A file's name, and the store that it holds.
@@ -63,15 +85,18 @@ type Store = (String, Vec<u8>);
 fn due(beyond: Beyond, turn: u32, stores: &[Store]) -> String {
     let mut out = String::new();
     let (mut tally, mut not_read, mut not_turned) = (Tally::default(), 0, 0);
-    let mut last: Option<&[u8]> = None;
+    let (mut last, mut bed): (Option<&[u8]>, Kept) = (None, Kept::START);
     for (name, store) in stores {
         if last.is_some_and(|last| packet::repeats(store, last) == Ok(true)) {
             writeln!(out, "{name}: repeats the one before").unwrap();
             continue;
         }
         match finished(beyond, turn, store) {
-            Ok((Fields { width, height, rounds, .. }, [red, blue])) => {
-                writeln!(out, "{name}: {width} by {height}, red {red}, blue {blue}").unwrap();
+            Ok((fields, planes)) => {
+                let Fields { width, height, rounds, .. } = fields;
+                let [red, blue] = [0, 2].map(|colour| mean(&planes[colour]));
+                let bed = bed_text(&mut bed, &fields, &planes);
+                writeln!(out, "{name}: {width} by {height}, red {red}, blue {blue}; {bed}").unwrap();
                 tally = tally.next(0, rounds);
                 last = Some(store);
             }
@@ -142,7 +167,9 @@ fn frame(chance: &mut Chance, width: usize, height: usize) -> (Fields, Vec<u16>)
 
 /// Packets of many sizes, in turn with one level and with two, after older bytes too.
 fn packets(chance: &mut Chance) -> Vec<Vec<u8>> {
-    let sizes = [(2, 2), (3, 2), (2, 3), (3, 3), (5, 4), (4, 7), (9, 9), (31, 18), (2, 257), (300, 3)];
+    let small = [(2, 2), (3, 2), (2, 3), (3, 3), (5, 4), (4, 7), (9, 9), (31, 18), (2, 257), (300, 3)];
+    // with room for the bed's window
+    let sizes = small.into_iter().chain([(32, 32), (45, 34)]);
     let first = chance.place(2) as u32;
     let packets = (first..).zip(sizes).map(|(k, (width, height))| {
         let (fields, samples) = frame(chance, width, height);
@@ -166,10 +193,10 @@ fn every_turn() {
         }
         let last = compared("every_turn", turn, stores).pop().unwrap();
         if turn < 8 {
-            assert!(last.starts_with("finished 10, refused 0, rounds "), "turn {turn}: {last}");
+            assert!(last.starts_with("finished 12, refused 0, rounds "), "turn {turn}: {last}");
             assert!(last.ends_with("; not read 9, not turned 0"), "turn {turn}: {last}");
         } else {
-            assert_eq!(last, "finished 0, refused 0, rounds 0; not read 9, not turned 10", "turn {turn}");
+            assert_eq!(last, "finished 0, refused 0, rounds 0; not read 9, not turned 12", "turn {turn}");
         }
     }
 }
@@ -255,12 +282,13 @@ fn a_changed_setting() {
 }
 
 /// A mirrored head's frame, turned upright, gives the line of the frame itself; turned otherwise, it gives the same red and
-/// blue.
+/// blue, and the same bed where the window stands in the very middle.
 #[test]
 fn a_mirrored_head() {
     let chance = &mut Chance(0xfedc_ba98_7654_3210);
-    for (width, height) in [(2, 2), (3, 2), (5, 4), (4, 4), (16, 9), (40, 33)] {
+    for (width, height) in [(2, 2), (3, 2), (5, 4), (4, 4), (16, 9), (40, 33), (36, 50)] {
         let (fields, samples) = frame(chance, width, height);
+        let in_the_middle = width % 2 == 0 && height % 2 == 0;
         let upright = Frame { width, height, layout: fields.layout, samples };
         let line = after_name(&compared("a_head", 0, vec![packet::bytes(&fields, &upright.samples)])[0]);
         for head in 0..8 {
@@ -268,13 +296,112 @@ fn a_mirrored_head() {
             let packet = packet::bytes(&Fields { width, height, layout, ..fields }, &samples);
             for turn in 0..8 {
                 let found = after_name(&compared("a_mirrored_head", turn, vec![packet.clone()])[0]);
-                let colours = |line: &str| line.split_once(", ").unwrap().1.to_string();
-                assert_eq!(colours(&found), colours(&line), "head {head}, turn {turn}");
+                let [same, due] = [&found, &line].map(|line| line.split_once(", ").unwrap().1);
+                let [colours, due_colours] = [same, due].map(|text| text.split_once(';').unwrap().0);
+                assert_eq!(colours, due_colours, "head {head}, turn {turn}");
+                assert!(same == due || !in_the_middle, "head {head}, turn {turn}: {same}");
                 if upright.turned(head).turned(turn) == upright {
                     assert_eq!(found, line, "head {head}, turn {turn}");
                 }
             }
         }
+    }
+}
+
+/// A packet of a frame with one value everywhere: its planes have that value too.
+fn flat(width: usize, height: usize, value: u16) -> Vec<u8> {
+    let fields = Fields { width, height, layout: 6, rounds: 2, threshold: 20 };
+    packet::bytes(&fields, &vec![value; width * height])
+}
+
+/// What the lines of finished frames say of the bed.
+fn beds(lines: &[String]) -> Vec<&str> {
+    let of_files = &lines[..lines.len() - 1];
+    of_files.iter().filter_map(|line| Some(line.split_once("; ")?.1)).collect()
+}
+
+/// The window's sum is 1,024 times the value, and each lit frame takes the spot an eighth of the way to it.
+#[test]
+fn the_bed_by_hand() {
+    let steady = |spot: &str| format!("bed red {spot}, green {spot}, blue {spot}");
+    let small = "bed refused 19, window not wholly inside the frame".to_string();
+    let frames = [
+        ((40, 36, 0), "bed starting".to_string()),
+        ((31, 40, 100), small.clone()),
+        ((40, 36, 0), "bed starting".to_string()),
+        ((32, 32, 100), steady("102400.000")),
+        ((33, 47, 200), steady("115200.000")),
+        ((40, 31, 300), small),
+        ((47, 33, 0), "bed dark".to_string()),
+        ((47, 33, 200), steady("126400.000")),
+        ((36, 40, 1), steady("110728.000")),
+        ((36, 41, 4095), steady("621047.000")),
+        ((32, 33, 1), steady("543544.125")),
+        ((32, 33, 0), "bed dark".to_string()),
+        ((32, 33, 2), steady("475857.109")),
+    ];
+    for turn in 0..8 {
+        let stores = frames.each_ref().map(|((width, height, value), _)| flat(*width, *height, *value));
+        let lines = compared("the_bed_by_hand", turn, stores.to_vec());
+        assert_eq!(beds(&lines), frames.each_ref().map(|(_, bed)| &bed[..]), "turn {turn}");
+    }
+}
+
+/// White all around, and black in the middle, farther than finishing without a round reaches into the window.
+fn black_in_the_middle(chance: &mut Chance) -> Vec<u8> {
+    let (width, height) = (70, 66);
+    let black = |i: usize, j: usize| (8..58).contains(&i) && (8..62).contains(&j);
+    let samples = filled(width, height, |i, j| if black(i, j) { 0 } else { 4095 });
+    packet::bytes(&Fields { rounds: 0, ..chance.few_rounds(width, height) }, &samples)
+}
+
+/// A frame with room for the window.
+fn with_room(chance: &mut Chance) -> Vec<u8> {
+    let (width, height) = chance.one_of(&[(32, 32), (33, 47), (47, 33), (40, 36), (64, 35)]);
+    let (fields, samples) = frame(chance, width, height);
+    packet::bytes(&fields, &samples)
+}
+
+/// Frames of every kind in a row, unlit ones and small ones among them. The bed starts when the first lit one comes, and is
+/// dark in the unlit ones after it.
+#[test]
+fn the_bed_from_frame_to_frame() {
+    let chance = &mut Chance(0xc2b2_ae3d_27d4_eb4f);
+    for turn in 0..8 {
+        let black = flat(35, 40, 0);
+        let mut stores = vec![black.clone(), black_in_the_middle(chance)];
+        for _ in 0..3 {
+            stores.extend([with_room(chance), with_room(chance), with_room(chance), chance.small_packet()]);
+            stores.extend([black_in_the_middle(chance), with_room(chance), black.clone()]);
+        }
+        let lines = compared("the_bed_from_frame_to_frame", turn, stores);
+        let beds = beds(&lines);
+        assert_eq!(beds[..2], ["bed starting"; 2], "turn {turn}");
+        for k in [6, 8, 13, 15, 20, 22] {
+            assert_eq!(beds[k], "bed dark", "turn {turn}, file {}", k + 1);
+        }
+    }
+}
+
+/// Packets that are refused or skipped, and frames without room for the window, leave the bed: without them it is the same.
+#[test]
+fn what_leaves_the_bed() {
+    let chance = &mut Chance(0xc4ce_b9fe_1a85_ec53);
+    for turn in 0..8 {
+        let frames: Vec<_> = (0..8).map(|_| with_room(chance)).collect();
+        let mut stores = Vec::new();
+        for frame in &frames {
+            let refused = [&frame[..], &[255]].concat();
+            let small = flat(31, 2 + stores.len(), 4095);
+            stores.extend([frame.clone(), refused, frame.clone(), small]);
+        }
+        let lines = compared("what_leaves_the_bed", turn, stores);
+        let others = compared("what_leaves_the_bed_alone", turn, frames);
+        let without_small = beds(&lines).into_iter().filter(|bed| !bed.contains("refused"));
+        assert_eq!(without_small.collect::<Vec<_>>(), beds(&others), "turn {turn}");
+        assert_eq!(lines.iter().filter(|line| line.contains("repeats")).count(), 8, "turn {turn}");
+        assert!(lines[32].ends_with("not read 8, not turned 0"), "turn {turn}: {}", lines[32]);
+        assert!(beds(&others).iter().any(|bed| bed.starts_with("bed red")), "turn {turn}: {others:?}");
     }
 }
 

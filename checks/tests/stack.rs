@@ -26,7 +26,7 @@ fn no_call_needs_more() {
     let output = Command::new(&program).output().unwrap();
     let text = String::from_utf8(output.stdout).unwrap();
     assert!(output.status.success(), "{} fails, {}: {text}", program.display(), output.status);
-    assert_eq!(text.lines().count(), 12, "{text}");
+    assert_eq!(text.lines().count(), 14, "{text}");
     for line in text.lines() {
         let [call, layout, bytes] = line.split(' ').collect::<Vec<_>>()[..] else { panic!("{line}") };
         let two_levels = layout == "7" && ["finish", "rounds"].contains(&call);

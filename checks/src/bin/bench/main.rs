@@ -1,7 +1,7 @@
 //! Times the library's calls: `cargo run --release --features bench --bin bench`.
 //!
 //! Beside each stands plain C of the same form (`c/plain_*.c`), by clang and by gcc. Before calls are timed
-//! they must give the same. Each time is told on standard error, and at last docs/SPEED.md's table is printed.
+//! they must give the same. Each time is told on standard error, and at last docs/SPEED.md's tables are printed.
 
 use bank::Bank;
 use calls::PROGRAMS;
@@ -10,6 +10,7 @@ use checks::mosaic::has_two_levels;
 use clock::least_times;
 use frame::Frame;
 use picture::picture;
+use spot::Spot;
 use table::{Table, Times, SIDES};
 
 mod bank;
@@ -19,6 +20,7 @@ mod frame;
 #[path = "../../library.rs"]
 mod library;
 mod picture;
+mod spot;
 mod table;
 
 /// The rounds and thresholds that finishing is timed with. Without rounds the threshold has nothing to do. Two levels settle
@@ -34,7 +36,7 @@ fn finished(layout: u32) -> &'static [(u32, u32)] {
 /// A round's time is that of so many rounds less that of one: what a call does once does not count in it.
 const MORE: u32 = 5;
 
-/// Small frames of every layout, pictures and chance, and the bank's smallest planes.
+/// Small frames of every layout, pictures and chance, the bank's smallest planes, and those with room for a spot.
 fn check_small(chance: &mut Chance) {
     for (width, height) in [(1, 1), (1, 6), (7, 1), (2, 2), (3, 2), (37, 29)] {
         let mut bank = Bank::new(width, height, &chance.samples(width * height));
@@ -50,6 +52,11 @@ fn check_small(chance: &mut Chance) {
                 frame.check_refused();
             }
         }
+    }
+    for (width, height) in [(32, 32), (33, 47), (40, 36)] {
+        let mut spot = Spot::new(width, height, [(); 3].map(|_| chance.any_samples(width * height)));
+        spot.check();
+        spot.check_refused();
     }
 }
 
@@ -96,14 +103,24 @@ fn time_frame(table: &mut Table, side: usize, mosaic: Vec<u16>) {
     time_rounds(table, &mut frame);
 }
 
+/// The mosaic for want of planes.
+fn time_spot(table: &mut Table, side: usize, mosaic: &[u16]) {
+    let mut spot = Spot::new(side, side, [(); 3].map(|_| mosaic.to_vec()));
+    spot.check();
+    table.add("the spot", side, least_times(PROGRAMS, |calls| spot.read_many(calls)));
+}
+
 fn main() {
     let chance = &mut Chance(0x9e37_79b9_7f4a_7c15);
     check_small(chance);
-    let mut table = Table::default();
+    let (mut table, mut per_frame) = (Table::per_pixel(), Table::per_frame());
     for side in SIDES {
         let mosaic = picture(chance, side, side, 0);
         time_bank(&mut table, side, &mosaic);
+        time_spot(&mut per_frame, side, &mosaic);
         time_frame(&mut table, side, mosaic);
     }
     table.print();
+    println!();
+    per_frame.print();
 }
