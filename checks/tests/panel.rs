@@ -287,7 +287,7 @@ fn a_changed_setting() {
 fn a_mirrored_head() {
     let chance = &mut Chance(0xfedc_ba98_7654_3210);
     for (width, height) in [(2, 2), (3, 2), (5, 4), (4, 4), (16, 9), (40, 33), (36, 50)] {
-        let (fields, samples) = frame(chance, width, height);
+        let (fields, samples) = (chance.few_rounds(width, height), chance.samples(width * height));
         let in_the_middle = width % 2 == 0 && height % 2 == 0;
         let upright = Frame { width, height, layout: fields.layout, samples };
         let line = after_name(&compared("a_head", 0, vec![packet::bytes(&fields, &upright.samples)])[0]);
