@@ -70,7 +70,7 @@ spot-call g = record {
   old = g .kept;
 }
 
--- sums of 16-bit samples: each has its float
+-- sums of 16-bit samples, which floats hold exactly
 pub record Small (s : Sums) : Type 0 where
   pub red : s .red ≤ largest-sum
   pub green : s .green ≤ largest-sum
