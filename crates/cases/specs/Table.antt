@@ -1,5 +1,5 @@
--- Document 01, "Reference cases": those with a letter, as one table. A row has what the engine's definitions compute, and what
--- document 01 states. proofs/Table.antt has the one proof. Assumes nothing.
+-- Document 01, "Reference cases": those with a letter, and document 02's own cases, as one table. A row has what the engine's definitions
+-- compute, and what the documents state. proofs/Table.antt has the one proof. Assumes nothing.
 use mathlib.Core.List.{List, [], _∷_, _++_, map}
 use lib.IntN.{ℤ, pos, negℤ}
 use Prim.Native.Nat.{ℕ}
@@ -13,16 +13,17 @@ use Rattle.neighbourhood.specs.Place.{around, hamilton-adams}
 use Rattle.projection.specs.Projection.{held, limits-of}
 use Rattle.rounds.specs.Calls.{rounds-lists}
 
-pub data Letter : Type 0 where
-  a b c d e f g h i j k : Letter
+-- a case's letter, or the request that states it
+pub data Name : Type 0 where
+  a b c d e f g h i j k request-05 : Name
 
 pub record Case : Type 0 where
-  pub letter : Letter
+  pub name : Name
   pub computed : List ℤ
   pub stated : List ℤ
 
-abbrev pub case : Letter → List ℤ → List ℤ → Case
-case x computed stated = record { letter = x; computed = computed; stated = stated }
+abbrev pub case : Name → List ℤ → List ℤ → Case
+case x computed stated = record { name = x; computed = computed; stated = stated }
 
 -- a plane of one row
 abbrev row : List ℤ
@@ -40,10 +41,12 @@ green-of n = pos (hamilton-adams ceiling (around (line 80 ∷ line 50 ∷ (n ∷
     line : ℕ → List ℕ
     line m = 0 ∷ 0 ∷ m ∷ 0 ∷ 0 ∷ []
 
--- 2 by 2, layout 0, T 0, one round, green 40 60 / 60 40, red all 100, blue all 5, mosaic 100 60 60 5
-unfoldable pub one-round : Planes (List ℕ)
-one-round =
-    rounds-lists (frame 2 2 0 (100 ∷ 60 ∷ 60 ∷ 5 ∷ [])) (settings 1 0) (planes (100 ∷ 100 ∷ 100 ∷ 100 ∷ []) (40 ∷ 60 ∷ 60 ∷ 40 ∷ []) (5 ∷ 5 ∷ 5 ∷ 5 ∷ []))
+-- 2 by 2, layout 0, T 0, n rounds, green 40 60 / 60 40, red all 100, blue all 5, mosaic 100 60 60 5: red, and blue
+unfoldable pub after-rounds : ℕ → List ℤ
+after-rounds n = map pos (after .red ++ after .blue)
+  where
+    after : Planes (List ℕ)
+    after = rounds-lists (frame 2 2 0 (100 ∷ 60 ∷ 60 ∷ 5 ∷ [])) (settings n 0) (planes (100 ∷ 100 ∷ 100 ∷ 100 ∷ []) (40 ∷ 60 ∷ 60 ∷ 40 ∷ []) (5 ∷ 5 ∷ 5 ∷ 5 ∷ []))
 
 unfoldable pub table : List Case
 table =
@@ -63,6 +66,8 @@ table =
     ∷ case h (green-of 100 ∷ []) (pos 50 ∷ [])
     ∷ case i (green-of 60 ∷ []) (pos 60 ∷ [])
     ∷ case j (green-of 90 ∷ []) (pos 58 ∷ [])
-    -- red 100 110 / 110 90, blue 0 15 / 15 5
-    ∷ case k (map pos (one-round .red ++ one-round .blue)) ((pos 100 ∷ pos 110 ∷ pos 110 ∷ pos 90 ∷ []) ++ (pos 0 ∷ pos 15 ∷ pos 15 ∷ pos 5 ∷ []))
+    -- one round: red 100 110 / 110 90, blue 0 15 / 15 5
+    ∷ case k (after-rounds 1) ((pos 100 ∷ pos 110 ∷ pos 110 ∷ pos 90 ∷ []) ++ (pos 0 ∷ pos 15 ∷ pos 15 ∷ pos 5 ∷ []))
+    -- "black beside white", two rounds: red 100 113 / 113 93, blue 0 18 / 18 5
+    ∷ case request-05 (after-rounds 2) ((pos 100 ∷ pos 113 ∷ pos 113 ∷ pos 93 ∷ []) ++ (pos 0 ∷ pos 18 ∷ pos 18 ∷ pos 5 ∷ []))
     ∷ []

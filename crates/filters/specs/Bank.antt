@@ -4,7 +4,7 @@ use Prim.Native.Nat.{ℕ, _*_, _≤_}
 use lib.Dec.{T}
 use lib.IntN.{ℤ, pos, negsuc, natAbs, _+ℤ_, _-ℤ_, _*ℤ_}
 use lib.Signed.{nonNeg}
-use Rattle.integers.specs.Numbers.{rounded, clamp}
+use Rattle.integers.specs.Numbers.{rounded, clamp, clipped}
 use Rattle.border.specs.Border.{reflect}
 
 -- ---- taps
@@ -86,7 +86,7 @@ rescaled d least most s = clamp least most (rounded d s)
 
 -- (s + 512) whole-divided by 1,024, to 0..top, as a sample
 unfoldable pub brought-back : ℕ → ℤ → ℕ
-brought-back top s = natAbs (rescaled 1024 (pos 0) (pos top) s)
+brought-back top s = clipped top (rounded 1024 s)
 
 -- ---- what the filters in code ask of a value: no partial sum of any of the four then leaves 32 bits
 abbrev pub Small : ℤ → Type 0

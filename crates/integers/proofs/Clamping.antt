@@ -46,15 +46,28 @@ module _ (lo hi : ℤ) (order : lo ≤ℤ hi) where
   pub clamp-twice : (z : ℤ) → clamp lo hi (clamp lo hi z) ≡ clamp lo hi z
   clamp-twice z = clamp-inside (clamp-from z) (clamp-to z)
 
+  -- what lies below the range is clipped to its least, what lies above to its most
+  pub clamp-below : {z : ℤ} → z ≤ℤ lo → clamp lo hi z ≡ lo
+  clamp-below {z} k =
+      clamp-cases lo hi z (λ x. x ≡ lo) (λ e. refl) (λ e. ≤ℤ-antisym (≤ℤ-trans (le-of-lt hi z e) k) order) (λ e f. ≤ℤ-antisym k e)
+
+  pub clamp-above : {z : ℤ} → hi ≤ℤ z → clamp lo hi z ≡ hi
+  clamp-above {z} k =
+      clamp-cases lo hi z (λ x. x ≡ hi) (λ e. ≤ℤ-antisym order (≤ℤ-trans k (le-of-lt z lo e))) (λ e. refl) (λ e f. ≤ℤ-antisym f k)
+
   pub clamp-monotone : {a b : ℤ} → a ≤ℤ b → clamp lo hi a ≤ℤ clamp lo hi b
   clamp-monotone {a} {b} h =
       clamp-cases lo hi a (λ x. x ≤ℤ clamp lo hi b) (λ e. clamp-from b)
       (λ e. subst (λ (x : ℤ). hi ≤ℤ x) (sym (clamp-above (≤ℤ-trans (le-of-lt hi a e) h))) (≤ℤ-refl hi))
       (λ f g. clamp-cases lo hi b (λ x. a ≤ℤ x) (λ e. ≤ℤ-trans h (le-of-lt b lo e)) (λ e. g) (λ e k. h))
-    where
-      clamp-above : {z : ℤ} → hi ≤ℤ z → clamp lo hi z ≡ hi
-      clamp-above {z} k =
-          clamp-cases lo hi z (λ x. x ≡ hi) (λ e. ≤ℤ-antisym order (≤ℤ-trans k (le-of-lt z lo e))) (λ e. refl) (λ e f. ≤ℤ-antisym f k)
+
+  -- a clip to a wider range before changes nothing
+  pub clamp-after-wider : {from to : ℤ} → from ≤ℤ lo → hi ≤ℤ to → (z : ℤ) → clamp lo hi (clamp from to z) ≡ clamp lo hi z
+  clamp-after-wider {from} {to} h k z =
+      clamp-cases from to z (λ x. clamp lo hi x ≡ clamp lo hi z)
+      (λ e. clamp-below h ∙ sym (clamp-below (≤ℤ-trans (le-of-lt z from e) h)))
+      (λ e. clamp-above k ∙ sym (clamp-above (≤ℤ-trans k (le-of-lt to z e))))
+      (λ e f. refl)
 
 -- ---- into 0..top: the clipped number is a natural number, at most top
 pub clamp-sample : (top : ℕ) (z : ℤ) → (natAbs (clamp (pos 0) (pos top) z) ≤ top) × (pos (natAbs (clamp (pos 0) (pos top) z)) ≡ clamp (pos 0) (pos top) z)

@@ -2,7 +2,7 @@
 use mathlib.Core.Path.{_≡_, refl, sym, ap, _∙_, subst}
 use mathlib.Core.Bool.{Bool, true, false, not}
 use mathlib.Core.List.{[], _∷_}
-use Prim.Native.Nat.{ℕ, suc, _+_, _-_, _≤_, _<_}
+use Prim.Native.Nat.{ℕ, zero, suc, _+_, _-_, _≤_, _<_}
 use native.Mathlib.Nat.{le-trans, le-antisymm}
 use native.Mathlib.Omega.{arith}
 use lib.Dec.{T, ltb, leb→le, le→leb, ltb→lt}
@@ -89,6 +89,17 @@ abs-between {lo} {hi} {z} {m} h k p q = go lo hi z (h .le) (k .le) p q
     go lo (negsuc b) (pos c) h k p q = absurd k
     go (pos a) hi (negsuc c) h k p q = absurd h
     go (negsuc a) hi (negsuc c) h k p q = let l : c ≤ a = leb→le c a h in omega arith
+
+-- and what is at most n from 0 lies within −n..n
+pub from-opposite : (n : ℕ) (z : ℤ) → natAbs z ≤ n → negℤ (pos n) ≤ℤ z
+from-opposite zero (pos a) b = record { le = le→leb 0 a (omega arith) }
+from-opposite (suc n) (pos a) b = record { le = tt }
+from-opposite zero (negsuc a) b = absurd (omega arith)
+from-opposite (suc n) (negsuc a) b = record { le = le→leb a n (omega arith) }
+
+pub to-number : (n : ℕ) (z : ℤ) → natAbs z ≤ n → z ≤ℤ pos n
+to-number n (pos a) b = record { le = le→leb a n b }
+to-number n (negsuc a) b = record { le = tt }
 
 -- an order test of two numbers, both k more
 pub lt-moved : (a b k : ℤ) → ltZ (a +ℤ k) (b +ℤ k) ≡ ltZ a b

@@ -6,7 +6,7 @@ use Prim.Native.Nat.{ℕ, _+_}
 use lib.Dec.{ltb}
 use lib.IntN.{ℤ, pos, negsuc, natAbs, _+ℤ_, _-ℤ_, _*ℤ_}
 use lib.ListN.{getD}
-use Rattle.integers.specs.Numbers.{rounded, clamp}
+use Rattle.integers.specs.Numbers.{rounded, clipped}
 use Rattle.integers.specs.Lists.{tabulate}
 use Rattle.border.specs.Border.{reflect}
 use Rattle.planes.specs.Layout.{Colour, red, green, blue}
@@ -57,7 +57,7 @@ eight-greens row column =
 
 -- add 4, whole-divide by 8, clip
 unfoldable pub hamilton-adams : ℕ → Around ℕ → ℕ
-hamilton-adams top n = natAbs (clamp (pos 0) (pos top) (rounded 8 (eight-greens (row-of n) (column-of n))))
+hamilton-adams top n = clipped top (rounded 8 (eight-greens (row-of n) (column-of n)))
 
 -- the observed sample is kept
 unfoldable pub green-at : ℕ → Colour → Around ℕ → ℕ

@@ -6,7 +6,7 @@ ghost use Prim.Native.Nat.{_+_, _≤_, _<_};
 ghost use lib.IntN.{pos, natAbs, _-ℤ_, _*ℤ_};
 ghost use lib.Signed.{ltZ};
 ghost use lib.ListN.{length, getD};
-ghost use Rattle.integers.specs.Numbers.{rounded, clamp};
+ghost use Rattle.integers.specs.Numbers.{rounded, clipped};
 ghost use Rattle.integers.specs.Lists.{tabulate};
 ghost use Rattle.border.specs.Border.{reflect};
 ghost use Rattle.planes.specs.Layout.{by-parity};
@@ -200,7 +200,7 @@ fn eight_greens(row: [u16; 5], column: [u16; 5]) -> i32
 // The eighth of a sum, rounded and clipped to 0..top. Below 0 nothing is divided: the machine's quotient goes toward 0 there.
 fn clipped_eighth(top: u16, sum: i32) -> u16
     requires { ⌜ natAbs sum ≤ most-greens ⌝ }
-    ensures { λ r. ⌜ r ≡ natAbs (clamp (pos 0) (pos top) (rounded 8 sum)) ⌝ }
+    ensures { λ r. ⌜ r ≡ clipped top (rounded 8 sum) ⌝ }
 {
     let raised = sum + 4;
     if raised < 0 {

@@ -6,26 +6,27 @@ ghost use Prim.Native.Nat.{_*_, _<_};
 ghost use lib.IntN.{pos};
 ghost use lib.ListN.{length};
 ghost use Rattle.planes.specs.Planes.{plane-of};
-ghost use Rattle.work_buffer.specs.Buffer.{with-plane, zeroed, Narrow, Workable};
+ghost use Rattle.work_buffer.specs.Buffer.{with-plane, zeroed, Workable};
 ghost use Rattle.working_plane.specs.Rounds.{working-plane};
-ghost use Rattle.working_plane.specs.Colours.{round-of, other, rewritten-list};
+ghost use Rattle.working_plane.specs.Colours.{round-of, other, rewritten-list, Working};
 
 // So many rounds of a colour's working plane: the projection on green, and then the observed samples.
 fn run(colour: Colour, top: u16, rounds: u8, mosaic: &[u16], green: &[u16], work: &mut [i32])
-    requires { ⌜ Workable (colour .width) (colour .height) (now mosaic) (now green) (length (now work)) × (colour .row < 2) × (colour .column < 2) × Narrow (now work) 0 (colour .width * colour .height) ⌝ }
+    requires { ⌜ Workable (colour .width) (colour .height) (now mosaic) (now green) (length (now work)) × (colour .row < 2) × (colour .column < 2) × Working (now work) (colour .width * colour .height) ⌝ }
     ensures { λ _. ⌜ now (work .exit) ≡ with-plane (colour .width) (colour .height) (working-plane rounds (round-of false colour top (now (mosaic .entry)) (now (green .entry))) (plane-of (pos 0) (colour .width) (now (work .entry)))) (now (work .entry)) ⌝ }
 {
     let given = working_plane::given_of(colour);
-    let most = top as i32;
+    let least = working_plane::least_kept(top);
+    let most = working_plane::most_kept(top);
     let mut n = 0;
     while n < rounds {
-        sweep::project(work, green, given, 0, most);
+        sweep::project(work, green, given, least, most);
         working_plane::put_observed(colour, mosaic, work);
         n += 1;
     }
 }
 
-// A colour's plane: loaded, worked on through all rounds, and unloaded once.
+// A colour's plane: loaded, worked on through all rounds, and unloaded once, clipped.
 fn rewrite(
     colour: Colour,
     top: u16,
@@ -41,7 +42,7 @@ fn rewrite(
 {
     working_plane::load(plane, work);
     run(colour, top, rounds, mosaic, green, work);
-    working_plane::unload(work, plane);
+    working_plane::unload(work, top, plane);
 }
 
 // Red, and then blue. The work buffer's first 8 · width · height numbers are scratch.

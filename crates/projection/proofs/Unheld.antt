@@ -3,12 +3,12 @@
 -- Assumes nothing.
 use mathlib.Core.Path.{_≡_, refl, sym, _∙_, ap, subst}
 use mathlib.Core.List.{[], _∷_}
-use Prim.Native.Nat.{ℕ, zero, suc, _*_, _≤_, _<_}
+use Prim.Native.Nat.{ℕ, _*_, _≤_, _<_}
 use native.Mathlib.Omega.{arith}
-use lib.Dec.{le→leb}
-use lib.IntN.{ℤ, pos, negsuc, negℤ, natAbs, _-ℤ_, _*ℤ_, +ℤ-idr}
+use lib.IntN.{ℤ, pos, natAbs, _-ℤ_, _*ℤ_, +ℤ-idr}
 use lib.Signed.{_≤ℤ_}
 use Rattle.integers.proofs.Products.{*ℤ-assoc}
+use Rattle.integers.proofs.Order.{from-opposite, to-number}
 use Rattle.integers.proofs.Clamping.{clamp-inside}
 use Rattle.integers.proofs.Rounding.{rounded-exact}
 use Rattle.integers.proofs.Linear.{linear, x₀, number, _⊖_}
@@ -70,17 +70,7 @@ module _ (w h : ℕ) (wide : 0 < w) (high : 0 < h) (guide own : ℕ → ℕ → 
 -- what is within the limit has nothing outside
 excess-inside : (n : ℕ) (z : ℤ) → natAbs z ≤ n → excess (pos n) z ≡ pos 0
 unfolding excess
-excess-inside n z b = ap (λ x. z -ℤ x) (clamp-inside (from n z b) (to n z b)) ∙ linear (z ∷ []) (x₀ ⊖ x₀) (number (pos 0)) tt
-  where
-    from : (n : ℕ) (z : ℤ) → natAbs z ≤ n → negℤ (pos n) ≤ℤ z
-    from zero (pos a) b = record { le = le→leb 0 a (omega arith) }
-    from (suc n) (pos a) b = record { le = tt }
-    from zero (negsuc a) b = absurd (omega arith)
-    from (suc n) (negsuc a) b = record { le = le→leb a n (omega arith) }
-
-    to : (n : ℕ) (z : ℤ) → natAbs z ≤ n → z ≤ℤ pos n
-    to n (pos a) b = record { le = le→leb a n b }
-    to n (negsuc a) b = record { le = tt }
+excess-inside n z b = ap (λ x. z -ℤ x) (clamp-inside (from-opposite n z b) (to-number n z b)) ∙ linear (z ∷ []) (x₀ ⊖ x₀) (number (pos 0)) tt
 
 -- nothing in any band
 abbrev pub no-bands : Bands ℤ

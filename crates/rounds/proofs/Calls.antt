@@ -2,18 +2,20 @@
 use mathlib.Core.Path.{_≡_, sym, _∙_, ap}
 use mathlib.Core.Bool.{true}
 use mathlib.Core.List.{List, _++_}
-use Prim.Native.Nat.{ℕ, _*_}
+use Prim.Native.Nat.{ℕ, _+_, _*_, _≤_, _<_}
+use native.Mathlib.Omega.{arith}
 use lib.IntN.{ℤ}
 use lib.ListN.{length}
 use borrow.Author.Tests.{eqb-true, leb-true}
+use Rattle.integers.proofs.Tests.{true-is}
 use Rattle.planes.specs.Layout.{two-levels}
 use Rattle.planes.specs.Planes.{Frame, Planes, planes, listing, listings, plane-of}
-use Rattle.planes.proofs.Planes.{listing-plane-of, listing-agree}
+use Rattle.planes.proofs.Planes.{place-inside, listing-plane-of, listing-agree}
 use Rattle.questions.specs.Settings.{ceiling-of, rounds-of}
-use Rattle.questions.specs.Questions.{ask, shape-questions, settings-questions, frame-questions}
+use Rattle.questions.specs.Questions.{ask, all-at-most, shape-questions, settings-questions, frame-questions}
 use Rattle.questions.specs.Lent.{Lent, lent, rooms-of, wide-enough, buffer-questions}
 use Rattle.questions.specs.declared.Settings.{Settings}
-use Rattle.questions.proofs.Asking.{AllYes, all-yes, all-yes-split, shape-is}
+use Rattle.questions.proofs.Asking.{AllYes, all-yes, all-yes-split, shape-is, all-at-most-at}
 use Rattle.work_buffer.specs.Buffer.{zeroed, wide-zeroed, Workable}
 use Rattle.working_plane.specs.Rounds.{rewritten}
 use Rattle.working_plane.specs.Colours.{round-of, rewritten-list}
@@ -54,6 +56,31 @@ module _ (f : Frame) (s : Settings) (before : Lent) (n : ℕ) (e : n ≡ ask (ro
   pub blue-long : length (before .three .blue) ≡ count
   blue-long = let y = known .1 in eqb-true (length (before .three .blue)) count (search y)
 
+  -- 10 is answered yes
+  reds-small : all-at-most (ceiling-of s) (before .three .red) ≡ true
+  reds-small = let y = known .1 in search y
+
+  blues-small : all-at-most (ceiling-of s) (before .three .blue) ≡ true
+  blues-small = let y = known .1 in search y
+
+  -- with no round no plane changes: each sample is at most the ceiling, so that the last clip leaves it
+  pub no-rounds : rounds-of s ≡ 0 → rounds-lists f s (before .three) ≡ before .three
+  unfolding rounds-lists rounds
+  no-rounds none = λ i.
+      planes (same (red-of (f .width) (f .height) (f .layout) s) (before .three .red) red-long reds-small i)
+      (before .three .green)
+      (same (blue-of (f .width) (f .height) (f .layout) s) (before .three .blue) blue-long blues-small i)
+    where
+      small-at : (plane : List ℕ) → length plane ≡ count → all-at-most (ceiling-of s) plane ≡ true → (r c : ℕ) → r < f .height → c < f .width → plane-of 0 (f .width) plane r c ≤ ceiling-of s
+      small-at plane e small r c hr hc = unfold plane-of in all-at-most-at (ceiling-of s) plane (true-is small) (r * f .width + c) (omega (arith, e, place-inside hr hc))
+
+      same : (k : Colour) (plane : List ℕ) → length plane ≡ count → all-at-most (ceiling-of s) plane ≡ true
+          → listing (f .width) (f .height) (rewritten (rounds-of s) (round-of (two-levels (f .layout)) k (ceiling-of s) (f .samples) (before .three .green)) (plane-of 0 (f .width) plane)) ≡ plane
+      same k plane e small =
+          ap (λ (n : ℕ). listing (f .width) (f .height) (rewritten n (round-of (two-levels (f .layout)) k (ceiling-of s) (f .samples) (before .three .green)) (plane-of 0 (f .width) plane))) none
+          ∙ listing-agree (f .width) (f .height) (λ r c hr hc. no-round _ (plane-of 0 (f .width) plane) r c (small-at plane e small r c hr hc))
+          ∙ listing-plane-of 0 (f .width) (f .height) plane e
+
 -- ---- what it leaves
 module _ (f : Frame) (s : Settings) (before : Lent) where
   abbrev w : ℕ
@@ -79,15 +106,3 @@ pub lists-are : (f : Frame) (s : Settings) (given : Planes (List ℕ)) → lengt
 unfolding rounds-lists rounds
 lists-are f s given long = λ i.
     planes (rounds-lists f s given .red) (sym (listing-plane-of 0 (f .width) (f .height) (given .green) long) i) (rounds-lists f s given .blue)
-
--- with no round no plane changes
-pub no-rounds : (f : Frame) (s : Settings) → rounds-of s ≡ 0 → (given : Planes (List ℕ)) → length (given .red) ≡ f .width * f .height → length (given .blue) ≡ f .width * f .height
-    → rounds-lists f s given ≡ given
-unfolding rounds-lists rounds
-no-rounds f s none given p q = λ i. planes (same (red-of (f .width) (f .height) (f .layout) s) (given .red) p i) (given .green) (same (blue-of (f .width) (f .height) (f .layout) s) (given .blue) q i)
-  where
-    same : (k : Colour) (plane : List ℕ) → length plane ≡ f .width * f .height
-        → listing (f .width) (f .height) (rewritten (rounds-of s) (round-of (two-levels (f .layout)) k (ceiling-of s) (f .samples) (given .green)) (plane-of 0 (f .width) plane)) ≡ plane
-    same k plane e =
-        ap (λ (n : ℕ). listing (f .width) (f .height) (rewritten n (round-of (two-levels (f .layout)) k (ceiling-of s) (f .samples) (given .green)) (plane-of 0 (f .width) plane))) none
-        ∙ listing-agree (f .width) (f .height) (λ r c hr hc. no-round _ (plane-of 0 (f .width) plane) r c) ∙ listing-plane-of 0 (f .width) (f .height) plane e

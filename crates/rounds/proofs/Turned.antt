@@ -3,7 +3,8 @@ use mathlib.Core.Path.{_≡_, refl, sym}
 use mathlib.Core.Bool.{Bool, true, false, cond, not, _&&_}
 use Prim.Native.Nat.{ℕ, zero, suc, _-_, _%_}
 use lib.Dec.{eqb}
-use lib.IntN.{ℤ, pos, natAbs}
+use lib.IntN.{ℤ, pos}
+use Rattle.integers.specs.Numbers.{clipped}
 use Rattle.planes.specs.Layout.{red-row, red-column, on-red-row, on-red-column, two-levels}
 use Rattle.planes.specs.Planes.{Planes, planes}
 use Rattle.planes.proofs.Layouts.{row-lt, column-lt}
@@ -16,7 +17,7 @@ use Rattle.turns.proofs.Commuting.{Commutes, same, composed, paired, pointwise,
 use Rattle.projection.specs.Projection.{Limits, limits-of}
 use Rattle.projection.proofs.Projection.{projected-commutes}
 use Rattle.projection.proofs.Levels.{two-level-projected-commutes}
-use Rattle.working_plane.specs.Rounds.{Round, put-observed, round, working-plane, rewritten}
+use Rattle.working_plane.specs.Rounds.{Round, least-kept, most-kept, put-observed, round, working-plane, rewritten}
 use Rattle.working_plane.proofs.Repeated.{round-projected}
 use Rattle.rounds.specs.Rounds.{rounds}
 
@@ -80,7 +81,7 @@ module _ (top : ℕ) (limits : Limits) (k : Coloured) where
   pub round-commutes : Commutes same same round-operation
   round-commutes =
       commutes-by (λ w h l p r c. sym (round-projected (round-in w h l (λ i j. p i j .0) (λ i j. p i j .1)) (λ i j. p i j .2) r c))
-      (observed-commutes (by-level (two-level-projected-commutes limits (pos 0) (pos top)) (projected-commutes (limits .first) (pos 0) (pos top))))
+      (observed-commutes (by-level (two-level-projected-commutes limits (least-kept top) (most-kept top)) (projected-commutes (limits .first) (least-kept top) (most-kept top))))
 
   -- n
   abbrev pub n-rounds : ℕ → Operation (ℕ × ℕ × ℤ) ℤ
@@ -102,7 +103,7 @@ module _ (top : ℕ) (limits : Limits) (k : Coloured) where
   unfolding rewritten
   rewritten-commutes n plane =
       composed (pointwise {A = ℕ × Planes ℕ} {B = ℕ × ℕ × ℤ} same same (λ x. (x .0, x .1 .green, pos (plane (x .1)))) (λ x. refl))
-      (composed (working-plane-commute n) (pointwise same same natAbs (λ z. refl)))
+      (composed (working-plane-commute n) (pointwise same same (clipped top) (λ z. refl)))
 
 -- ---- the three planes
 -- the rounds see only what is inside, and commute with every turn

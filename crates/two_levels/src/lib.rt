@@ -6,9 +6,9 @@ ghost use Prim.Native.Nat.{_+_, _*_, _≤_, _<_};
 ghost use lib.IntN.{pos};
 ghost use lib.ListN.{length};
 ghost use Rattle.planes.specs.Planes.{plane-of};
-ghost use Rattle.work_buffer.specs.Buffer.{with-plane, zeroed, Narrow, Workable};
+ghost use Rattle.work_buffer.specs.Buffer.{with-plane, zeroed, Workable};
 ghost use Rattle.working_plane.specs.Rounds.{working-plane};
-ghost use Rattle.working_plane.specs.Colours.{round-of, other, rewritten-list};
+ghost use Rattle.working_plane.specs.Colours.{round-of, other, rewritten-list, Working};
 
 // So many rounds of a colour's working plane: the projection on green, and then the observed samples. The rings and lines are scratch.
 fn run(
@@ -33,7 +33,7 @@ fn run(
     minus: &mut [i32],
     plus: &mut [i32],
 )
-    requires { ⌜ Workable (colour .width) (colour .height) (now mosaic) (now green) (length (now work)) × (colour .row < 2) × (colour .column < 2) × Narrow (now work) 0 (colour .width * colour .height) ⌝ }
+    requires { ⌜ Workable (colour .width) (colour .height) (now mosaic) (now green) (length (now work)) × (colour .row < 2) × (colour .column < 2) × Working (now work) (colour .width * colour .height) ⌝ }
     requires { ⌜ (3 * colour .width ≤ length (now differences)) × (5 * colour .width ≤ length (now band)) × (7 * colour .width ≤ length (now apart1)) × (7 * colour .width ≤ length (now together1)) × (9 * colour .width ≤ length (now apart2)) × (9 * colour .width ≤ length (now together2)) ⌝ }
     requires { ⌜ (5 * colour .width ≤ length (now apart)) × (5 * colour .width ≤ length (now together)) × (5 * colour .width ≤ length (now rests)) ⌝ }
     requires { ⌜ (colour .width + 8 ≤ length (now low)) × (colour .width + 8 ≤ length (now high)) × (colour .width + 8 ≤ length (now parts)) × (colour .width + 8 ≤ length (now minus)) × (colour .width + 8 ≤ length (now plus)) ⌝ }
@@ -41,7 +41,8 @@ fn run(
 {
     let given = working_plane::given_of(colour);
     let second_limit = 256 * work_buffer::widened(colour.threshold);
-    let most = top as i32;
+    let least = working_plane::least_kept(top);
+    let most = working_plane::most_kept(top);
     let mut n = 0;
     while n < rounds {
         two_level_rows::project_rows(
@@ -49,7 +50,7 @@ fn run(
             green,
             given,
             second_limit,
-            0,
+            least,
             most,
             differences,
             band,
@@ -71,7 +72,7 @@ fn run(
     }
 }
 
-// A colour's plane: loaded, worked on through all rounds, and unloaded once. The rings stand here, so that they are declared once for all rounds, and
+// A colour's plane: loaded, worked on through all rounds, and unloaded once, clipped. The rings stand here, so that they are declared once for all rounds, and
 // so that this function has them on its stack and its callers do not: it is called twice, and the compiler leaves it by itself.
 fn rewrite(
     colour: Colour,
@@ -124,7 +125,7 @@ fn rewrite(
         &mut minus,
         &mut plus,
     );
-    working_plane::unload(work, plane);
+    working_plane::unload(work, top, plane);
 }
 
 // Red, and then blue. The work buffer's first 8 · width · height numbers are scratch.

@@ -32,6 +32,11 @@ module _ (w h : ℕ) (work : List ℤ) (room : w * h ≤ length work) where
   unfolding with-plane
   with-plane-at p k hk = ap (value (with-plane w h p work)) (sym (zero-add k)) ∙ overwrite-in work 0 (w * h) (λ k. p (k / w) (k % w)) k (pos 0) (omega (arith, room)) hk
 
+  -- what holds of the plane's values holds of the buffer's first numbers
+  pub with-plane-holds : (p : ℕ → ℕ → ℤ) {l : List ℤ} → l ≡ with-plane w h p work → (P : ℤ → Type 0) → ((r c : ℕ) → r < h → c < w → P (p r c)) → (k : ℕ) → k < w * h → P (value l k)
+  with-plane-holds p e P hold k hk =
+      subst P (sym (ap (λ (x : List ℤ). value x k) e ∙ with-plane-at p k hk)) (hold (k / w) (k % w) (row-inside w h k hk) (column-inside w h k hk))
+
   -- it holds the plane
   pub plane-with : (p : ℕ → ℕ → ℤ) → Agree w h (plane-of (pos 0) w (with-plane w h p work)) p
   unfolding plane-of
@@ -118,9 +123,9 @@ pub narrow-plane : (w h : ℕ) (work : List ℤ) → w * h ≤ length work → (
     → ((r c : ℕ) → r < h → c < w → SampleTo 65535 (p r c)) → Narrow l 0 (w * h)
 narrow-plane w h work room p {l} e small = record {
   inside = omega (arith, ap length e, length-with-plane w h work room p, room);
-  sign = λ k hk. subst (λ (z : ℤ). T (nonNeg z)) (sym (at k hk)) (small (k / w) (k % w) (row-inside w h k hk) (column-inside w h k hk) .0);
-  small = λ k hk. subst (λ (z : ℤ). natAbs z ≤ 65535) (sym (at k hk)) (small (k / w) (k % w) (row-inside w h k hk) (column-inside w h k hk) .1);
+  sign = λ k hk. sample-at k hk .0;
+  small = λ k hk. sample-at k hk .1;
 }
   where
-    at : (k : ℕ) → k < w * h → value l (0 + k) ≡ p (k / w) (k % w)
-    at k hk = ap (value l) (zero-add k) ∙ ap (λ (x : List ℤ). value x k) e ∙ with-plane-at w h work room p k hk
+    sample-at : (k : ℕ) → k < w * h → SampleTo 65535 (value l (0 + k))
+    sample-at k hk = subst (λ (n : ℕ). SampleTo 65535 (value l n)) (sym (zero-add k)) (with-plane-holds w h work room p e (SampleTo 65535) small k hk)

@@ -7,10 +7,10 @@ use native.Mathlib.Nat.{zero-add}
 use native.Mathlib.Numerals.{add-one}
 use native.Mathlib.Omega.{arith}
 use lib.Dec.{eqb}
-use lib.IntN.{ℤ, pos, natAbs}
+use lib.IntN.{ℤ, pos}
 use lib.ListN.{getD, length}
 use Rattle.integers.specs.Lists.{tabulate, overwrite}
-use Rattle.integers.proofs.Bounds.{abs-sub}
+use Rattle.integers.specs.Numbers.{clipped}
 use Rattle.integers.proofs.Lists.{tabulate-cong}
 use Rattle.planes.specs.Planes.{listing, plane-of, Agree}
 use Rattle.planes.specs.Lists.{value, sample}
@@ -20,12 +20,12 @@ use Rattle.filters.specs.Bank.{Distance}
 use Rattle.projection.specs.Projection.{limits-of}
 use Rattle.rings.specs.Planes.{own-plane, guide-plane, Projectable}
 use Rattle.rings.specs.declared.Given.{Given}
-use Rattle.work_buffer.specs.Buffer.{with-plane, zeroed, Narrow, Workable}
-use Rattle.work_buffer.proofs.Buffer.{length-with-plane, with-plane-at, plane-with, with-plane-agree, with-plane-again, with-own-plane, zeroed-with-plane, loaded, SampleTo, narrow-plane}
+use Rattle.work_buffer.specs.Buffer.{with-plane, zeroed, Workable}
+use Rattle.work_buffer.proofs.Buffer.{length-with-plane, with-plane-at, with-plane-holds, plane-with, with-plane-agree, with-plane-again, with-own-plane, zeroed-with-plane, loaded}
 use Rattle.working_plane.specs.Rounds.{Round, put-observed, round, working-plane, rewritten}
-use Rattle.working_plane.specs.Colours.{round-of, given, other}
+use Rattle.working_plane.specs.Colours.{round-of, given, other, KeptTo, Working}
 use Rattle.working_plane.specs.declared.Colour.{Colour}
-use Rattle.working_plane.proofs.Repeated.{projected-on-green, round-projected, round-agrees, working-plane-agree, working-plane-hold, kept-sample}
+use Rattle.working_plane.proofs.Repeated.{projected-on-green, round-projected, round-agrees, working-plane-agree, working-plane-hold, sample-kept, sum-kept, kept-far, kept-near, kept-grows}
 
 -- ---- what the projection is given
 -- the working plane, first in its list
@@ -42,21 +42,24 @@ guide-first green w h limit r c = ap (λ (n : ℕ). pos (getD green n 0)) place
     place = omega arith
 
 -- they may be projected
-pub projectable : (w h : ℕ) (mosaic green : List ℕ) (work : List ℤ) → Workable w h mosaic green (length work) → Narrow work 0 (w * h) → ((k : ℕ) → getD green k 0 ≤ 65535) → (limit : ℤ) → Distance limit
+pub projectable : (w h : ℕ) (mosaic green : List ℕ) (work : List ℤ) → Workable w h mosaic green (length work) → Working work (w * h) → ((k : ℕ) → getD green k 0 ≤ 65535) → (limit : ℤ) → Distance limit
     → Projectable (given w h limit) work green
 unfolding own-plane guide-plane
 projectable w h mosaic green work u n sg limit distance = record {
   sizes = sizes-from-1 (u .sizes);
   limit = distance;
-  inside = n .inside;
-  small = λ k hk. omega (arith, n .small k hk);
+  inside = omega (arith, n .inside);
+  small = λ k hk. kept-far 65535 (at k hk);
   guide-inside = λ r c hr hc. omega (arith, u .greens, place-inside hr hc);
-  near = λ r c hr hc. omega (arith, abs-sub (value work (0 + (r * w + c))) (pos (getD green (0 + r * w + c * 1) 0)), n .small (r * w + c) (place-inside hr hc), sg (0 + r * w + c * 1));
+  near = λ r c hr hc. kept-near 65535 (at (r * w + c) (place-inside hr hc)) (getD green (0 + r * w + c * 1) 0) (sg (0 + r * w + c * 1));
 }
+  where
+    at : (k : ℕ) → k < w * h → KeptTo 65535 (value work (0 + k))
+    at k hk = subst (λ (i : ℕ). KeptTo 65535 (value work i)) (sym (zero-add k)) (n .each k hk)
 
 -- a colour's, within the limit of a first level
 pub colour-projectable : (k : Colour) (mosaic green : List ℕ) (work : List ℤ) {g : Given} → g ≡ given (k .width) (k .height) (limits-of (k .threshold) .first) → k .threshold ≤ 65535
-    → Workable (k .width) (k .height) mosaic green (length work) → Narrow work 0 (k .width * k .height) → ((i : ℕ) → getD green i 0 ≤ 65535) → Projectable g work green
+    → Workable (k .width) (k .height) mosaic green (length work) → Working work (k .width * k .height) → ((i : ℕ) → getD green i 0 ≤ 65535) → Projectable g work green
 colour-projectable k mosaic green work e few u n sg =
     subst (λ (x : Given). Projectable x work green) (sym e)
     (projectable (k .width) (k .height) mosaic green work u n sg _ (unfold limits-of in (record { sign = tt; small = omega (arith, few) })))
@@ -120,17 +123,18 @@ module _ (two : Bool) (k : Colour) (top : ℕ) (mosaic green : List ℕ) (work :
       held : Agree w h (plane-of (pos 0) w before) (After n)
       held r c hr hc = ap (λ (l : List ℤ). plane-of (pos 0) w l r c) p ∙ plane-with w h work room (After n) r c hr hc
 
-  -- its numbers are samples all the while
-  pub after-narrow : (n : ℕ) {l : List ℤ} → l ≡ with-plane w h (After n) work → Narrow work 0 (w * h) → top ≤ 65535 → ((i : ℕ) → getD mosaic i 0 ≤ 65535) → Narrow l 0 (w * h)
-  after-narrow n p narrow few sm =
-      narrow-plane w h work room (After n) p
-      (working-plane-hold K (SampleTo 65535) Own (λ times s. let b = kept-sample times top s in (b .0, omega (arith, b .1, few))) (λ r c hr hc. (tt, observed r c)) first n)
+  -- its numbers lie in their range all the while
+  pub after-working : (n : ℕ) {l : List ℤ} → l ≡ with-plane w h (After n) work → Working work (w * h) → top ≤ 65535 → ((i : ℕ) → getD mosaic i 0 ≤ 65535) → Working l (w * h)
+  after-working n p u few sm = record {
+    inside = omega (arith, ap length p, length-with-plane w h work room (After n), room);
+    each = with-plane-holds w h work room (After n) p (KeptTo 65535) (working-plane-hold K (KeptTo 65535) Own (λ times s. kept-grows few (sum-kept top times s)) (λ r c hr hc. sample-kept 65535 _ (observed r c)) first n);
+  }
     where
       observed : (r c : ℕ) → plane-of 0 w mosaic r c ≤ 65535
       observed r c = unfold plane-of in sm (r * w + c)
 
-      first : (r c : ℕ) → r < h → c < w → SampleTo 65535 (plane-of (pos 0) w work r c)
-      first r c hr hc = unfold plane-of in subst (λ (n : ℕ). SampleTo 65535 (value work n)) (zero-add (r * w + c)) (narrow .sign (r * w + c) (place-inside hr hc), narrow .small (r * w + c) (place-inside hr hc))
+      first : (r c : ℕ) → r < h → c < w → KeptTo 65535 (plane-of (pos 0) w work r c)
+      first r c hr hc = unfold plane-of in u .each (r * w + c) (place-inside hr hc)
 
 -- ---- a colour's plane: loaded, through n rounds, and unloaded
 module _ (two : Bool) (k : Colour) (top : ℕ) (mosaic green plane : List ℕ) (work : List ℤ) (room : k .width * k .height ≤ length work) (long : length plane ≡ k .width * k .height)
@@ -145,8 +149,11 @@ module _ (two : Bool) (k : Colour) (top : ℕ) (mosaic green plane : List ℕ) (
   first-long : length first ≡ length work
   first-long = ap length first-laid ∙ length-with-plane (k .width) (k .height) work room Samples
 
-  pub first-narrow : ((i : ℕ) → getD plane i 0 ≤ 65535) → Narrow first 0 (k .width * k .height)
-  first-narrow sm = narrow-plane (k .width) (k .height) work room Samples first-laid (λ r c hr hc. (tt, small r c))
+  pub first-working : ((i : ℕ) → getD plane i 0 ≤ 65535) → Working first (k .width * k .height)
+  first-working sm = record {
+    inside = omega (arith, room, first-long);
+    each = with-plane-holds (k .width) (k .height) work room Samples first-laid (KeptTo 65535) (λ r c hr hc. sample-kept 65535 _ (small r c));
+  }
     where
       small : (r c : ℕ) → plane-of 0 (k .width) plane r c ≤ 65535
       small r c = unfold plane-of in sm (r * k .width + c)
@@ -156,9 +163,6 @@ module _ (two : Bool) (k : Colour) (top : ℕ) (mosaic green plane : List ℕ) (
 
   module _ (n : ℕ) {second : List ℤ} (q : second ≡ with-plane (k .width) (k .height) (working-plane n (round-of two k top mosaic green) (plane-of (pos 0) (k .width) first)) first) where
     -- and at last
-    pub last-narrow : top ≤ 65535 → ((i : ℕ) → getD plane i 0 ≤ 65535) → ((i : ℕ) → getD mosaic i 0 ≤ 65535) → Narrow second 0 (length plane)
-    last-narrow few sp sm = subst (Narrow second 0) (sym long) (after-narrow two k top mosaic green first (omega (arith, room, first-long)) n q (first-narrow sp) few sm)
-
     abbrev Last : ℕ → ℕ → ℤ
     Last = working-plane n (round-of two k top mosaic green) Samples
 
@@ -174,17 +178,21 @@ module _ (two : Bool) (k : Colour) (top : ℕ) (mosaic green plane : List ℕ) (
     pub last-long : length second ≡ length work
     last-long = ap length last-laid ∙ length-with-plane (k .width) (k .height) work room Last
 
+    -- with room for the plane
+    pub last-room : length plane ≤ length second
+    last-room = omega (arith, room, long, last-long)
+
     -- the work buffer has changed only where it will be zeroed
     pub scratched : 8 * (k .width * k .height) ≤ length work → zeroed (k .width) (k .height) second ≡ zeroed (k .width) (k .height) work
     scratched eight = ap (zeroed (k .width) (k .height)) last-laid ∙ zeroed-with-plane (k .width) (k .height) (k .width) (k .height) Last work (omega arith) eight
 
     -- unloaded as samples
-    pub unloaded : {out : List ℕ} → out ≡ tabulate (length plane) (λ i. natAbs (value second i))
+    pub unloaded : {out : List ℕ} → out ≡ tabulate (length plane) (λ i. clipped top (value second i))
         → out ≡ listing (k .width) (k .height) (rewritten n (round-of two k top mosaic green) (plane-of 0 (k .width) plane))
     unfolding listing rewritten
     unloaded e =
-        e ∙ ap (λ (m : ℕ). tabulate m (λ i. natAbs (value second i))) long
-        ∙ tabulate-cong (k .width * k .height) _ _ (λ i hi. ap natAbs (ap (λ (l : List ℤ). value l i) last-laid ∙ with-plane-at (k .width) (k .height) work room Last i hi))
+        e ∙ ap (λ (m : ℕ). tabulate m (λ i. clipped top (value second i))) long
+        ∙ tabulate-cong (k .width * k .height) _ _ (λ i hi. ap (clipped top) (ap (λ (l : List ℤ). value l i) last-laid ∙ with-plane-at (k .width) (k .height) work room Last i hi))
 
 -- ---- the other colour, which a function answers
 module _ (k : Colour) {b : Colour} (e : b ≡ other k) where

@@ -1,7 +1,8 @@
--- Document 01, "Rounds", of one colour's working plane; document 02, "Second level of the bank". Assumes nothing.
+-- Document 01, "Rounds", of one colour's working plane; document 02, "Second level of the bank" and "Black beside white". Assumes nothing.
 use mathlib.Core.Bool.{Bool, cond}
-use Prim.Native.Nat.{ℕ, zero, suc}
-use lib.IntN.{ℤ, pos, natAbs}
+use Prim.Native.Nat.{ℕ, zero, suc, _*_}
+use lib.IntN.{ℤ, pos, negℤ}
+use Rattle.integers.specs.Numbers.{clipped}
 use Rattle.planes.specs.Places.{put-at-places}
 use Rattle.filters.specs.Bank.{rescaled}
 use Rattle.projection.specs.Projection.{Limits, held-sum, two-level-sum}
@@ -20,9 +21,16 @@ pub record Round : Type 0 where
   pub mosaic : ℕ → ℕ → ℕ
   pub green : ℕ → ℕ → ℕ
 
--- what a working plane keeps of a joined sum between rounds: it is brought back from so many times a sample
+-- "Between rounds a working plane keeps" −ceiling..2·ceiling,
+unfoldable pub least-kept : ℕ → ℤ
+least-kept top = negℤ (pos top)
+
+unfoldable pub most-kept : ℕ → ℤ
+most-kept top = pos (2 * top)
+
+-- and of a joined sum so much as is brought back, from so many times a sample, into that range
 unfoldable pub kept : ℕ → ℕ → ℤ → ℤ
-kept times top s = rescaled times (pos 0) (pos top) s
+kept times top s = rescaled times (least-kept top) (most-kept top) s
 
 -- one level: split; in bands 2, 3, 4 hold the value within green's ± 16·T; join and bring back
 unfoldable pub one-level : Round → (ℕ → ℕ → ℤ) → ℕ → ℕ → ℤ
@@ -45,6 +53,6 @@ unfoldable pub working-plane : ℕ → Round → (ℕ → ℕ → ℤ) → ℕ �
 working-plane zero k own = own
 working-plane (suc n) k own = round k (working-plane n k own)
 
--- a colour's plane of samples after n rounds
+-- a colour's plane of samples after n rounds: its working plane, "clipped to 0..4,095 after the last"
 unfoldable pub rewritten : ℕ → Round → (ℕ → ℕ → ℕ) → ℕ → ℕ → ℕ
-rewritten n k plane r c = natAbs (working-plane n k (λ i j. pos (plane i j)) r c)
+rewritten n k plane r c = clipped (k .top) (working-plane n k (λ i j. pos (plane i j)) r c)

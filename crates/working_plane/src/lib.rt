@@ -1,14 +1,16 @@
 // Inner: a colour's working plane, which stands first in the work buffer: its samples in and out, and the observed samples put in.
 ghost use mathlib.Core.Path.{_≡_};
 ghost use Prim.Native.Nat.{_+_, _*_, _≤_, _<_};
-ghost use lib.IntN.{pos, natAbs};
+ghost use lib.IntN.{pos};
 ghost use lib.ListN.{length};
+ghost use Rattle.integers.specs.Numbers.{clipped};
 ghost use Rattle.integers.specs.Lists.{tabulate, overwrite};
 ghost use Rattle.planes.specs.Planes.{Sizes, plane-of};
 ghost use Rattle.planes.specs.Lists.{value, sample, put, InRow, InPlane};
 ghost use Rattle.planes.specs.Places.{place, put-at-places};
 ghost use Rattle.projection.specs.Projection.{limits-of};
-ghost use Rattle.work_buffer.specs.Buffer.{with-plane, Narrow};
+ghost use Rattle.work_buffer.specs.Buffer.{with-plane};
+ghost use Rattle.working_plane.specs.Rounds.{least-kept, most-kept};
 ghost use Rattle.working_plane.specs.Colours.{given, other};
 
 // A colour's places, by the frame's sizes and the parities of the colour's rows and columns; and the threshold. The ceiling goes beside it, a
@@ -50,6 +52,19 @@ pub fn given_of(colour: Colour) -> rings::Given
     }
 }
 
+// Between rounds a working plane keeps −top..2·top: the two ends of the projection's clip.
+pub fn least_kept(top: u16) -> i32
+    ensures { λ r. ⌜ r ≡ least-kept top ⌝ }
+{
+    0 - work_buffer::widened(top)
+}
+
+pub fn most_kept(top: u16) -> i32
+    ensures { λ r. ⌜ r ≡ most-kept top ⌝ }
+{
+    2 * work_buffer::widened(top)
+}
+
 // A plane's samples into the work buffer's first numbers: the working plane.
 pub fn load(plane: &[u16], work: &mut [i32])
     requires { ⌜ length (now plane) ≤ length (now work) ⌝ }
@@ -62,14 +77,15 @@ pub fn load(plane: &[u16], work: &mut [i32])
     }
 }
 
-// The working plane back into a plane of samples.
-pub fn unload(work: &[i32], plane: &mut [u16])
-    requires { ⌜ Narrow (now work) 0 (length (now plane)) ⌝ }
-    ensures { λ _. ⌜ now (plane .exit) ≡ tabulate (length (now (plane .entry))) (λ k. natAbs (value (now (work .entry)) k)) ⌝ }
+// The working plane back into a plane of samples, clipped to 0..top: after the last round.
+pub fn unload(work: &[i32], top: u16, plane: &mut [u16])
+    requires { ⌜ length (now plane) ≤ length (now work) ⌝ }
+    ensures { λ _. ⌜ now (plane .exit) ≡ tabulate (length (now (plane .entry))) (λ k. clipped top (value (now (work .entry)) k)) ⌝ }
 {
+    let most = top as i32;
     let mut k = 0;
     while k < plane.len() {
-        plane[k] = work_buffer::narrowed(work[k]);
+        plane[k] = work_buffer::narrowed(filters::clipped(work[k], 0, most));
         k += 1;
     }
 }

@@ -6,19 +6,16 @@ use native.Mathlib.Omega.{arith}
 use lib.ListN.{getD, length}
 use denote.Ref.{now}
 use borrow.Author.Needs.{needs}
-use Rattle.working_plane.proofs.Working.{first-narrow, first-workable, last-narrow, scratched, unloaded}
+use Rattle.working_plane.proofs.Working.{first-working, first-workable, last-room, scratched, unloaded}
 use Rattle.one_level.proofs.rewrite.Statement.{statement}
 use Rattle.one_level.proofs.rewrite.Tie as tie
 
 load-requires : tie.Need-load-requires
 load-requires c κs = search needs
 
--- the plane's samples, and the mosaic's, have 16 bits
+-- the plane's samples have 16 bits
 plane-small : (l : tie.After-load) (k : ℕ) → getD (now (l .before .before .before .before .before .before .args .plane)) k 0 ≤ 65535
 plane-small l k = omega (arith, l .before .before .before .slice-known .given k)
-
-mosaic-small : (l : tie.After-load) (k : ℕ) → getD (now (l .before .before .before .before .before .before .args .mosaic)) k 0 ≤ 65535
-mosaic-small l k = omega (arith, l .before .before .before .before .before .shared-slice-known .given k)
 
 room : (s : tie.Start) → s .args .colour .width * s .args .colour .height ≤ length (now (s .args .work))
 room s = omega (arith, s .pre .0 .work)
@@ -31,7 +28,7 @@ run-requires c κs =
       first-workable false (a .colour) (a .top) (now (a .mosaic)) (now (a .green)) (now (a .plane)) (now (a .work)) (room s) (s .pre .3) (l .load .ensures) (s .pre .0),
       s .pre .1,
       s .pre .2,
-      first-narrow false (a .colour) (a .top) (now (a .mosaic)) (now (a .green)) (now (a .plane)) (now (a .work)) (room s) (s .pre .3) (l .load .ensures) (plane-small l),
+      first-working false (a .colour) (a .top) (now (a .mosaic)) (now (a .green)) (now (a .plane)) (now (a .work)) (room s) (s .pre .3) (l .load .ensures) (plane-small l),
     )
 
 unload-requires : tie.Need-unload-requires
@@ -40,7 +37,7 @@ unload-requires c κs =
     let l = r .before .before .before in
     let s = l .before .before .before .before .before .before in
     let a = s .args in
-    last-narrow false (a .colour) (a .top) (now (a .mosaic)) (now (a .green)) (now (a .plane)) (now (a .work)) (room s) (s .pre .3) (l .load .ensures) _ (r .run .ensures) (omega arith) (plane-small l) (mosaic-small l)
+    last-room false (a .colour) (a .top) (now (a .mosaic)) (now (a .green)) (now (a .plane)) (now (a .work)) (room s) (s .pre .3) (l .load .ensures) _ (r .run .ensures)
 
 same-length : tie.Need-same-length
 same-length c = search needs

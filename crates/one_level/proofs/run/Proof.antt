@@ -8,29 +8,32 @@ use lib.IntN.{ℤ, pos}
 use lib.ListN.{length}
 use denote.Ref.{now}
 use mir.Syntax.{w32}
-use mir.Facts.{toZ-pos}
 use borrow.Author.Needs.{needs}
+use Rattle.integers.proofs.Bounds.{read-is}
 use Rattle.planes.specs.Planes.{plane-of}
-use Rattle.work_buffer.specs.Buffer.{with-plane, Narrow, Workable}
+use Rattle.work_buffer.specs.Buffer.{with-plane, Workable}
 use Rattle.working_plane.specs.Rounds.{working-plane}
-use Rattle.working_plane.specs.Colours.{round-of}
-use Rattle.working_plane.proofs.Working.{colour-projectable, none-laid, more-laid, after-narrow}
+use Rattle.working_plane.specs.Colours.{round-of, Working}
+use Rattle.working_plane.proofs.Working.{colour-projectable, none-laid, more-laid, after-working}
 use Rattle.one_level.proofs.Projected.{one-laid}
 use Rattle.one_level.proofs.run.Statement.{statement}
 use Rattle.one_level.proofs.run.Tie as tie
 
 abbrev Inv-loop : tie.InvT-loop
-Inv-loop colour top rounds mosaic green work₀ given most n₀ work n =
+Inv-loop colour top rounds mosaic green work₀ given least most n₀ work n =
     (n ≤ rounds)
     × (work ≡ with-plane (colour .width) (colour .height) (working-plane n (round-of false colour top mosaic green) (plane-of (pos 0) (colour .width) work₀)) work₀)
     × (length work ≡ length work₀)
 
 abbrev μ-loop : tie.MeasureT-loop
-μ-loop colour top rounds mosaic green work₀ given most n₀ work n = rounds - n
+μ-loop colour top rounds mosaic green work₀ given least most n₀ work n = rounds - n
 
--- where the function starts, and where the loop does
+-- where the function starts, and what the projection is given, from the loop
+abbrev given-at : tie.At-loop Inv-loop μ-loop → tie.After-given-of Inv-loop μ-loop
+given-at l = l .before .before .before
+
 abbrev start : tie.At-loop Inv-loop μ-loop → tie.Start Inv-loop μ-loop
-start l = l .before .before .before .before
+start l = given-at l .before .before .before
 
 -- the working plane after n rounds
 abbrev After : tie.Start Inv-loop μ-loop → ℕ → ℕ → ℕ → ℤ
@@ -43,12 +46,15 @@ room s = omega (arith, s .pre .0 .work)
 given-of-requires : tie.Need-given-of-requires Inv-loop μ-loop
 given-of-requires c κs = search needs
 
-cast-most : tie.Need-cast-most Inv-loop μ-loop
-cast-most c = search needs
+least-kept-requires : tie.Need-least-kept-requires Inv-loop μ-loop
+least-kept-requires c κs = search needs
+
+most-kept-requires : tie.Need-most-kept-requires Inv-loop μ-loop
+most-kept-requires c κs = search needs
 
 loop-holds : tie.Need-loop-holds Inv-loop μ-loop
 loop-holds c =
-    let s = c .before .before .before in
+    let s = c .before .before .before .before .before in
     let a = s .args in
     (omega arith, none-laid false (a .colour) (a .top) (now (a .mosaic)) (now (a .green)) (now (a .work)) (room s), refl)
 
@@ -56,17 +62,17 @@ loop-holds c =
 workable : (l : tie.At-loop Inv-loop μ-loop) → let a = start l .args in Workable (a .colour .width) (a .colour .height) (now (a .mosaic)) (now (a .green)) (length (l .loop .work))
 workable l = let a = start l .args in subst (Workable (a .colour .width) (a .colour .height) (now (a .mosaic)) (now (a .green))) (sym (l .loop .inv .2)) (start l .pre .0)
 
-narrow : (l : tie.At-loop Inv-loop μ-loop) → let a = start l .args in Narrow (l .loop .work) 0 (a .colour .width * a .colour .height)
-narrow l =
+working : (l : tie.At-loop Inv-loop μ-loop) → let a = start l .args in Working (l .loop .work) (a .colour .width * a .colour .height)
+working l =
     let s = start l in
     let a = s .args in
-    after-narrow false (a .colour) (a .top) (now (a .mosaic)) (now (a .green)) (now (a .work)) (room s) (l .loop .n) (l .loop .inv .1) (s .pre .3) (omega arith) (λ k. omega (arith, l .before .before .before .shared-slice-known .given k))
+    after-working false (a .colour) (a .top) (now (a .mosaic)) (now (a .green)) (now (a .work)) (room s) (l .loop .n) (l .loop .inv .1) (s .pre .3) (omega arith) (λ k. omega (arith, given-at l .before .before .shared-slice-known .given k))
 
 project-requires : tie.Need-project-requires Inv-loop μ-loop
 project-requires c κs =
     let l = c .before .before in
     let a = start l .args in
-    colour-projectable (a .colour) (now (a .mosaic)) (now (a .green)) (l .loop .work) (l .before .given-of .ensures) (omega (arith, start l .good .0)) (workable l) (narrow l) (λ k. omega (arith, l .before .before .shared-slice-known2 .given k))
+    colour-projectable (a .colour) (now (a .mosaic)) (now (a .green)) (l .loop .work) (given-at l .given-of .ensures) (omega (arith, start l .good .0)) (workable l) (working l) (λ k. omega (arith, given-at l .before .shared-slice-known2 .given k))
 
 put-observed-requires : tie.Need-put-observed-requires Inv-loop μ-loop
 put-observed-requires c κs =
@@ -90,7 +96,7 @@ loop-again c =
     let a = s .args in (
       omega arith,
       more-laid false (a .colour) (a .top) (now (a .mosaic)) (now (a .green)) (now (a .work)) (room s) (l .loop .n) (l .loop .inv .1)
-          (one-laid (a .colour) (a .top) (now (a .mosaic)) (now (a .green)) (l .loop .work) (l .before .given-of .ensures) (omega (arith, workable l .work)) (toZ-pos w32 (omega arith)) (p .project .ensures) (c .before .put-observed .ensures)),
+          (one-laid (a .colour) (a .top) (now (a .mosaic)) (now (a .green)) (l .loop .work) (given-at l .given-of .ensures) (omega (arith, workable l .work)) (read-is w32 (l .before .before .least-kept .ok) (l .before .before .least-kept .ensures)) (read-is w32 (l .before .most-kept .ok) (l .before .most-kept .ensures)) (p .project .ensures) (c .before .put-observed .ensures)),
       omega arith,
     )
 
@@ -112,7 +118,8 @@ run-spec =
     Inv-loop
     μ-loop
     given-of-requires
-    cast-most
+    least-kept-requires
+    most-kept-requires
     loop-holds
     project-requires
     put-observed-requires

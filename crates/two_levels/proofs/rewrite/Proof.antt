@@ -9,7 +9,7 @@ use lib.Dec.{T, leb, leb→le}
 use lib.ListN.{getD, length}
 use denote.Ref.{now}
 use borrow.Author.Needs.{needs}
-use Rattle.working_plane.proofs.Working.{first-narrow, first-workable, last-narrow, last-long, scratched, unloaded}
+use Rattle.working_plane.proofs.Working.{first-working, first-workable, last-room, last-long, scratched, unloaded}
 use Rattle.two_levels.proofs.rewrite.Statement.{statement}
 use Rattle.two_levels.proofs.rewrite.Tie as tie
 
@@ -20,15 +20,9 @@ start l = l .before .before .before .before .before .before
 abbrev load-of : tie.After-run → tie.After-load
 load-of r = r .before .before .before .before .before .before .before .before .before .before .before .before .before .before .before .before .before
 
--- samples and the ceiling have 16 bits
-mosaic-small : (c : tie.After-shared-slice-known) (k : ℕ) → getD (now (c .before .args .mosaic)) k 0 ≤ 65535
-mosaic-small c k = omega (arith, c .shared-slice-known .given k)
-
+-- samples have 16 bits
 plane-small : (c : tie.After-slice-known) (k : ℕ) → getD (now (c .before .before .before .args .plane)) k 0 ≤ 65535
 plane-small c k = omega (arith, c .slice-known .given k)
-
-top-small : (s : tie.Start) → s .args .top ≤ 65535
-top-small s = omega (arith, s .good .1 .0)
 
 room : (s : tie.Start) → s .args .colour .width * s .args .colour .height ≤ length (now (s .args .work))
 room s = omega (arith, s .pre .0 .work)
@@ -91,7 +85,7 @@ run-requires c κs =
     let s = start l in
     let a = s .args in
     let w = s .pre .0 .sizes .width-to in (
-      (first-workable true (a .colour) (a .top) (now (a .mosaic)) (now (a .green)) (now (a .plane)) (now (a .work)) (room s) (s .pre .3) (l .load .ensures) (s .pre .0), s .pre .1, s .pre .2, first-narrow true (a .colour) (a .top) (now (a .mosaic)) (now (a .green)) (now (a .plane)) (now (a .work)) (room s) (s .pre .3) (l .load .ensures) (plane-small (l .before .before .before))),
+      (first-workable true (a .colour) (a .top) (now (a .mosaic)) (now (a .green)) (now (a .plane)) (now (a .work)) (room s) (s .pre .3) (l .load .ensures) (s .pre .0), s .pre .1, s .pre .2, first-working true (a .colour) (a .top) (now (a .mosaic)) (now (a .green)) (now (a .plane)) (now (a .work)) (room s) (s .pre .3) (l .load .ensures) (plane-small (l .before .before .before))),
       (
         (rows _ _ tt w, rows _ _ tt w, rows _ _ tt w, rows _ _ tt w, rows _ _ tt w, rows _ _ tt w),
         ((rows _ _ tt w, rows _ _ tt w, rows _ _ tt w), (line _ tt w, line _ tt w, line _ tt w, line _ tt w, line _ tt w)),
@@ -104,7 +98,7 @@ unload-requires c κs =
     let l = load-of r in
     let s = start l in
     let a = s .args in
-    last-narrow true (a .colour) (a .top) (now (a .mosaic)) (now (a .green)) (now (a .plane)) (now (a .work)) (room s) (s .pre .3) (l .load .ensures) _ (r .run .ensures) (top-small s) (plane-small (l .before .before .before)) (mosaic-small (l .before .before .before .before .before))
+    last-room true (a .colour) (a .top) (now (a .mosaic)) (now (a .green)) (now (a .plane)) (now (a .work)) (room s) (s .pre .3) (l .load .ensures) _ (r .run .ensures)
 
 same-length : tie.Need-same-length
 same-length c = search needs

@@ -11,23 +11,23 @@ use lib.ListN.{getD, length}
 use denote.Ref.{now}
 use mir.Syntax.{w32}
 use mir.Val.{toZ, ofZ}
-use mir.Facts.{toZ-pos, toZ-ofZ as back}
+use mir.Facts.{toZ-ofZ as back}
 use borrow.Author.Needs.{needs}
 use Rattle.integers.proofs.Bounds.{read-is, read-bound, fits-abs, bounds, fits}
 use Rattle.planes.specs.Planes.{plane-of}
 use Rattle.filters.specs.Bank.{Distance}
 use Rattle.projection.specs.Projection.{limits-of}
 use Rattle.rings.specs.declared.Given.{Given}
-use Rattle.work_buffer.specs.Buffer.{with-plane, Narrow, Workable}
-use Rattle.working_plane.specs.Rounds.{working-plane}
-use Rattle.working_plane.specs.Colours.{round-of}
-use Rattle.working_plane.proofs.Working.{colour-projectable, none-laid, more-laid, after-narrow}
+use Rattle.work_buffer.specs.Buffer.{with-plane, Workable}
+use Rattle.working_plane.specs.Rounds.{least-kept, most-kept, working-plane}
+use Rattle.working_plane.specs.Colours.{round-of, Working}
+use Rattle.working_plane.proofs.Working.{colour-projectable, none-laid, more-laid, after-working}
 use Rattle.two_levels.proofs.Projected.{two-laid}
 use Rattle.two_levels.proofs.run.Statement.{statement}
 use Rattle.two_levels.proofs.run.Tie as tie
 
 abbrev Inv-loop : tie.InvT-loop
-Inv-loop colour top rounds mosaic green work₀ differences₀ band₀ apart1₀ together1₀ apart2₀ together2₀ apart₀ together₀ rests₀ low₀ high₀ parts₀ minus₀ plus₀ given second-limit most n₀ work differences band apart1 together1 apart2 together2 apart together rests low high parts minus plus n =
+Inv-loop colour top rounds mosaic green work₀ differences₀ band₀ apart1₀ together1₀ apart2₀ together2₀ apart₀ together₀ rests₀ low₀ high₀ parts₀ minus₀ plus₀ given second-limit least most n₀ work differences band apart1 together1 apart2 together2 apart together rests low high parts minus plus n =
     (n ≤ rounds)
     × (work ≡ with-plane (colour .width) (colour .height) (working-plane n (round-of true colour top mosaic green) (plane-of (pos 0) (colour .width) work₀)) work₀)
     × (length work ≡ length work₀)
@@ -47,11 +47,14 @@ Inv-loop colour top rounds mosaic green work₀ differences₀ band₀ apart1₀
     × (length plus ≡ length plus₀)
 
 abbrev μ-loop : tie.MeasureT-loop
-μ-loop colour top rounds mosaic green work₀ differences₀ band₀ apart1₀ together1₀ apart2₀ together2₀ apart₀ together₀ rests₀ low₀ high₀ parts₀ minus₀ plus₀ given second-limit most n₀ work differences band apart1 together1 apart2 together2 apart together rests low high parts minus plus n = rounds - n
+μ-loop colour top rounds mosaic green work₀ differences₀ band₀ apart1₀ together1₀ apart2₀ together2₀ apart₀ together₀ rests₀ low₀ high₀ parts₀ minus₀ plus₀ given second-limit least most n₀ work differences band apart1 together1 apart2 together2 apart together rests low high parts minus plus n = rounds - n
 
--- where the function starts, and where the loop does
+-- where the threshold is read, and where the function starts, from the loop
+abbrev widened-at : tie.At-loop Inv-loop μ-loop → tie.After-widened Inv-loop μ-loop
+widened-at l = l .before .before .before
+
 abbrev start : tie.At-loop Inv-loop μ-loop → tie.Start Inv-loop μ-loop
-start l = l .before .before .before .before .before
+start l = widened-at l .before .before .before .before
 
 -- the working plane after n rounds
 abbrev After : tie.Start Inv-loop μ-loop → ℕ → ℕ → ℕ → ℤ
@@ -93,12 +96,15 @@ small c = read-bound w32 (c .widened .ensures) (omega arith)
 mul-second-limit : tie.Need-mul-second-limit Inv-loop μ-loop
 mul-second-limit c = let b = small c in fits (search bounds depth 14) tt
 
-cast-most : tie.Need-cast-most Inv-loop μ-loop
-cast-most c = search needs
+least-kept-requires : tie.Need-least-kept-requires Inv-loop μ-loop
+least-kept-requires c κs = search needs
+
+most-kept-requires : tie.Need-most-kept-requires Inv-loop μ-loop
+most-kept-requires c κs = search needs
 
 loop-holds : tie.Need-loop-holds Inv-loop μ-loop
 loop-holds c =
-    let s = c .before .before .before .before in
+    let s = c .before .before .before .before .before .before in
     let a = s .args in
     (omega arith, none-laid true (a .colour) (a .top) (now (a .mosaic)) (now (a .green)) (now (a .work)) (room s), refl, refl, refl, refl, refl, refl, refl, refl, refl, refl, refl, refl, refl, refl, refl)
 
@@ -109,24 +115,27 @@ kept {n} e = subst (λ (x : ℕ). n ≤ x) (sym e)
 workable : (l : tie.At-loop Inv-loop μ-loop) → let a = start l .args in Workable (a .colour .width) (a .colour .height) (now (a .mosaic)) (now (a .green)) (length (l .loop .work))
 workable l = let a = start l .args in subst (Workable (a .colour .width) (a .colour .height) (now (a .mosaic)) (now (a .green))) (sym (l .loop .inv .2)) (start l .pre .0 .0)
 
-narrow : (l : tie.At-loop Inv-loop μ-loop) → let a = start l .args in Narrow (l .loop .work) 0 (a .colour .width * a .colour .height)
-narrow l =
+working : (l : tie.At-loop Inv-loop μ-loop) → let a = start l .args in Working (l .loop .work) (a .colour .width * a .colour .height)
+working l =
     let s = start l in
     let a = s .args in
-    after-narrow true (a .colour) (a .top) (now (a .mosaic)) (now (a .green)) (now (a .work)) (room s) (l .loop .n) (l .loop .inv .1) (s .pre .0 .3) (top-small s) (mosaic-small (l .before .before .before .before))
+    after-working true (a .colour) (a .top) (now (a .mosaic)) (now (a .green)) (now (a .work)) (room s) (l .loop .n) (l .loop .inv .1) (s .pre .0 .3) (top-small s) (mosaic-small (widened-at l .before .before .before))
 
 -- where the loop starts, from the call of the sweep
 abbrev turn : tie.After-project-rows-arg15 Inv-loop μ-loop → tie.At-loop Inv-loop μ-loop
 turn c = c .before .before .before .before .before .before .before .before .before .before .before .before .before .before .before .before
 
--- what the machine reads
-top-reads : {top : ℕ} → top ≤ 65535 → toZ w32 top ≡ pos top
-top-reads h = toZ-pos w32 (omega (arith, h))
-
--- the second limit
+-- the second limit, as the machine reads it
 second-limit : (c : tie.After-widened Inv-loop μ-loop) → toZ w32 (ofZ w32 (pos 256 *ℤ toZ w32 (ofZ w32 (c .widened .result)))) ≡ limits-of (c .before .before .before .before .args .colour .threshold) .second
 unfolding limits-of
 second-limit c = back (let b = small c in fits (search bounds depth 14) tt) ∙ ap (λ (z : ℤ). pos 256 *ℤ z) (read c)
+
+-- and the ends of what is kept
+least-is : (c : tie.After-least-kept Inv-loop μ-loop) → toZ w32 (ofZ w32 (c .least-kept .result)) ≡ least-kept (c .before .before .before .before .before .args .top)
+least-is c = read-is w32 (c .least-kept .ok) (c .least-kept .ensures)
+
+most-is : (c : tie.After-most-kept Inv-loop μ-loop) → toZ w32 (ofZ w32 (c .most-kept .result)) ≡ most-kept (c .before .before .before .before .before .before .args .top)
+most-is c = read-is w32 (c .most-kept .ok) (c .most-kept .ensures)
 
 -- as many times the threshold, up to 256, as a limit
 times-distance : (n : ℕ) → T (leb n 256) → (c : tie.After-widened Inv-loop μ-loop) → Distance (toZ w32 (ofZ w32 (pos n *ℤ toZ w32 (ofZ w32 (c .widened .result)))))
@@ -153,12 +162,12 @@ project-rows-requires c κs =
     let l = turn c in
     let s = start l in
     let a = s .args in
-    let w = ap (λ (g : Given). g .width) (l .before .before .given-of .ensures) in
+    let w = ap (λ (g : Given). g .width) (widened-at l .before .given-of .ensures) in
     let i = l .loop .inv in
     let r = s .pre .1 in (
       (
-        colour-projectable (a .colour) (now (a .mosaic)) (now (a .green)) (l .loop .work) (l .before .before .given-of .ensures) (threshold-small s) (workable l) (narrow l) (green-small (l .before .before .before)),
-        times-distance _ tt (l .before),
+        colour-projectable (a .colour) (now (a .mosaic)) (now (a .green)) (l .loop .work) (widened-at l .before .given-of .ensures) (threshold-small s) (workable l) (working l) (green-small (widened-at l .before .before)),
+        times-distance _ tt (widened-at l),
       ),
       (
         (ring-room 3 w (i .3) (r .0 .0), ring-room 5 w (i .4) (r .0 .1), ring-room 7 w (i .5) (r .0 .2), ring-room 7 w (i .6) (r .0 .3), ring-room 9 w (i .7) (r .0 .4), ring-room 9 w (i .8) (r .0 .5)),
@@ -201,7 +210,7 @@ loop-again c =
     let i = l .loop .inv in (
       omega (arith, below (p .before)),
       more-laid true (a .colour) (a .top) (now (a .mosaic)) (now (a .green)) (now (a .work)) (room s) (l .loop .n) (l .loop .inv .1)
-          (two-laid (a .colour) (a .top) (now (a .mosaic)) (now (a .green)) (l .loop .work) (l .before .before .given-of .ensures) (eighth (workable l .work)) (second-limit (l .before)) (top-reads (top-small s)) (p .project-rows .ensures .0) (c .before .put-observed .ensures)),
+          (two-laid (a .colour) (a .top) (now (a .mosaic)) (now (a .green)) (l .loop .work) (widened-at l .before .given-of .ensures) (eighth (workable l .work)) (second-limit (widened-at l)) (least-is (l .before .before)) (most-is (l .before)) (p .project-rows .ensures .0) (c .before .put-observed .ensures)),
       c .before .put-observed .kept .1 .1 .0 ∙ p .project-rows .kept .0 ∙ i .2,
       e .0 .0 ∙ i .3,
       e .0 .1 ∙ i .4,
@@ -281,7 +290,8 @@ run-spec =
     given-of-requires
     widened-requires
     mul-second-limit
-    cast-most
+    least-kept-requires
+    most-kept-requires
     loop-holds
     project-rows-requires
     put-observed-requires
