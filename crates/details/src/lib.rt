@@ -6,7 +6,7 @@ ghost use lib.IntN.{natAbs, pos, _+ℤ_, _-ℤ_};
 ghost use lib.ListN.{length};
 ghost use Rattle.integers.specs.Lists.{overwrite};
 ghost use Rattle.planes.specs.Lists.{InRow, value};
-ghost use Rattle.filters.specs.Bank.{Distance, low-split, high-split, high-join, along};
+ghost use Rattle.filters.specs.Bank.{Distance, Ends, low-split, high-split, high-join, along};
 ghost use Rattle.lines.specs.Lines.{Run, spaced, padded};
 ghost use Rattle.projection.specs.Fast.{excess as outside, outer-part, crossed-along};
 ghost use Rattle.details.specs.Details.{difference-line, above-zero, below-zero, Triple, outer, outer-minus, outer-plus, from-place, crossed, Crossing, joined-apart, joined-together, settled};
@@ -217,14 +217,6 @@ pub fn join_along(
     join_parts(parts, minus, plus, d, n, apart, together, at);
 }
 
-// 1,024 times x, less a joined sum, brought back to least..most.
-fn settle(least: i32, most: i32, x: i32, sum: i32) -> i32
-    requires { ⌜ (natAbs x ≤ 131070) × (natAbs sum ≤ 1610612736) ⌝ }
-    ensures { λ r. ⌜ r ≡ settled least most x sum ⌝ }
-{
-    filters::rescale_bounded(1024 * x - sum, least, most)
-}
-
 // A line of n, from `at` on, less what is joined from five rows of the joined parts along the columns.
 pub fn settle_line(
     own: &mut [i32],
@@ -236,13 +228,13 @@ pub fn settle_line(
     least: i32,
     most: i32,
 )
-    requires { ⌜ Run 131070 (now own) at n × Crossing 134217728 (now apart) (now together) starts n ⌝ }
+    requires { ⌜ Run 131070 (now own) at n × Crossing 134217728 (now apart) (now together) starts n × Ends least most ⌝ }
     ensures { λ _. ⌜ now (own .exit) ≡ overwrite (now (own .entry)) at n (λ k. settled least most (value (now (own .entry)) (at + k)) (crossed (now (apart .entry)) (now (together .entry)) starts k)) ⌝ }
 {
     let mut k = 0;
     while k < n {
         let sum = crossed_at(apart, together, starts, n, k);
-        own[at + k] = settle(least, most, own[at + k], sum);
+        own[at + k] = filters::rescale_less(own[at + k], sum, least, most);
         k += 1;
     }
 }

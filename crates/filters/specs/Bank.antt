@@ -97,6 +97,7 @@ pub record Distance (most : ℤ) : Type 0 where
   pub sign : T (nonNeg most)
   pub small : natAbs most ≤ 1073741824
 
--- a sum to which half of 1,024 can be added, as a number of the machine
-pub record Roundable (s : ℤ) : Type 0 where
-  pub small : natAbs s ≤ 2147483135
+-- the two ends of a clip, as far from 0 as a working plane of 16-bit samples may be
+pub record Ends (least most : ℤ) : Type 0 where
+  pub from : natAbs least ≤ 131070
+  pub to : natAbs most ≤ 131070

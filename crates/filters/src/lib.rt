@@ -1,8 +1,9 @@
 // Inner: the filters of document 01's bank, one number at a time. LLVM inlines each, so that the loops over them are uniform.
 ghost use mathlib.Core.Path.{_≡_};
-ghost use lib.IntN.{pos};
+ghost use Prim.Native.Nat.{_≤_};
+ghost use lib.IntN.{pos, natAbs, _-ℤ_, _*ℤ_};
 ghost use Rattle.integers.specs.Numbers.{clamp};
-ghost use Rattle.filters.specs.Bank.{Small, Roundable, low-split, high-split, low-join, high-join, weighted, rescaled};
+ghost use Rattle.filters.specs.Bank.{Small, Ends, low-split, high-split, low-join, high-join, weighted, rescaled};
 
 // 1 2 1
 pub fn low_split(a: i32, b: i32, c: i32) -> i32
@@ -49,11 +50,12 @@ pub fn clipped(z: i32, least: i32, most: i32) -> i32
     z
 }
 
-// A sum brought back to least..most: (sum + 512) whole-divided by 1,024, by a signed shift, and clipped. It is for sums to which 512 can be
-// added.
-pub fn rescale_bounded(sum: i32, least: i32, most: i32) -> i32
-    requires { ⌜ Roundable sum ⌝ }
-    ensures { λ r. ⌜ r ≡ rescaled 1024 least most sum ⌝ }
+// 1,024 times x, less a sum, brought back to least..most: (that + 512) whole-divided by 1,024, by a signed shift, and clipped. x is added after the
+// shift, and `least` taken off before it, so that the clip starts at 0, which vectors of 128 bits do in half the instructions.
+pub fn rescale_less(x: i32, sum: i32, least: i32, most: i32) -> i32
+    requires { ⌜ (natAbs x ≤ 131070) × (natAbs sum ≤ 1610612736) × Ends least most ⌝ }
+    ensures { λ r. ⌜ r ≡ rescaled 1024 least most (pos 1024 *ℤ x -ℤ sum) ⌝ }
 {
-    clipped((sum + 512) >> 10, least, most)
+    let above = x + ((512 - 1024 * least - sum) >> 10);
+    clipped(above, 0, most - least) + least
 }

@@ -4,6 +4,7 @@ ghost use mathlib.Core.Path.{_≡_};
 ghost use Prim.Native.Nat.{_+_, _*_, _≤_};
 ghost use lib.ListN.{length};
 ghost use Rattle.planes.specs.Planes.{Sizes};
+ghost use Rattle.filters.specs.Bank.{Ends};
 ghost use Rattle.lines.specs.Lines.{Run};
 ghost use Rattle.details.specs.Details.{Crossing};
 ghost use Rattle.rings.specs.Planes.{reach, Projectable};
@@ -67,7 +68,7 @@ fn settled_stage(
     least: i32,
     most: i32,
 )
-    requires { ⌜ Sizes 1 (given .width) (given .height) × (t ≤ 4096) ⌝ }
+    requires { ⌜ Sizes 1 (given .width) (given .height) × (t ≤ 4096) × Ends least most ⌝ }
     requires { ⌜ (Working 3 (given .height) t → Run reach (now own) (row-at given (reached 3 (given .height) t)) (given .width) × Crossing 134217728 (now apart) (now together) (five-slots 5 1 given (reached 3 (given .height) t)) (given .width)) ⌝ }
     ensures { λ _. ⌜ now (own .exit) ≡ row-laid 3 given t (now (own .entry)) (row-at given (reached 3 (given .height) t)) (settled-row given least most (now (own .entry)) (now (apart .entry)) (now (together .entry)) (reached 3 (given .height) t)) ⌝ }
 {
@@ -96,7 +97,7 @@ fn project_rows(
     apart: &mut [i32],
     together: &mut [i32],
 )
-    requires { ⌜ Projectable given (now own) (now guide) × (3 * given .width ≤ length (now differences)) ⌝ }
+    requires { ⌜ Projectable given (now own) (now guide) × (3 * given .width ≤ length (now differences)) × Ends least most ⌝ }
     requires { ⌜ (given .width + 8 ≤ length (now low)) × (given .width + 8 ≤ length (now high)) × (given .width + 8 ≤ length (now parts)) × (given .width + 8 ≤ length (now minus)) × (given .width + 8 ≤ length (now plus)) ⌝ }
     requires { ⌜ (5 * given .width ≤ length (now apart)) × (5 * given .width ≤ length (now together)) ⌝ }
     ensures { λ _. ⌜ now (own .exit) ≡ with-projected given least most (now (own .entry)) (now (guide .entry)) ⌝ }
@@ -130,10 +131,9 @@ fn project_rows(
     }
 }
 
-// The plane's details held within the guide's ± limit, and the plane brought back to least..most. The two ends stand beside the record:
-// where every caller gives the same numbers, the compiler then clips with those.
+// The plane's details held within the guide's ± limit, and the plane brought back to least..most.
 pub fn project(own: &mut [i32], guide: &[u16], given: rings::Given, least: i32, most: i32)
-    requires { ⌜ Projectable given (now own) (now guide) ⌝ }
+    requires { ⌜ Projectable given (now own) (now guide) × Ends least most ⌝ }
     ensures { λ _. ⌜ now (own .exit) ≡ with-projected given least most (now (own .entry)) (now (guide .entry)) ⌝ }
 {
     // Longer than they need be: lines some multiple of 4,096 bytes apart would hinder each other in the machine's loads and stores.

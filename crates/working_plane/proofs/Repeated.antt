@@ -29,7 +29,7 @@ module _ (top : ℕ) where
 
   most-above : pos top ≤ℤ most-kept top
   unfolding most-kept
-  most-above = to-number (2 * top) (pos top) (omega arith)
+  most-above = to-number _ (pos top) (omega arith)
 
   -- so does a sample
   pub sample-kept : (x : ℕ) → x ≤ top → KeptTo top (pos x)
@@ -129,7 +129,7 @@ module _ (k : Round) where
   -- red and blue stay within the ceiling
   pub rewritten-bound : (n : ℕ) (plane : ℕ → ℕ → ℕ) (r c : ℕ) → rewritten n k plane r c ≤ k .top
   unfolding rewritten
-  rewritten-bound n plane r c = clamp-sample (k .top) (working-plane n k (λ i j. pos (plane i j)) r c) .0
+  rewritten-bound n plane r c = clamp-sample (k .top) _ .0
 
   -- a sample is not clipped
   sample-stays : (x : ℕ) → x ≤ k .top → clamp (pos 0) (pos (k .top)) (pos x) ≡ pos x

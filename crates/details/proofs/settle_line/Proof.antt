@@ -16,6 +16,7 @@ use Rattle.integers.specs.Lists.{overwrite}
 use Rattle.integers.proofs.Lists.{overwrite-none, overwrite-step, overwrite-after}
 use Rattle.integers.proofs.Bounds.{fits, read-is, read-bound, abs-read}
 use Rattle.planes.specs.Lists.{value}
+use Rattle.filters.proofs.Quotients.{ends-read}
 use Rattle.lines.proofs.Lines.{read-value}
 use Rattle.details.specs.Details.{crossed, settled}
 use Rattle.details.proofs.Details.{crossing-range, crossing-wider}
@@ -47,22 +48,22 @@ crossed-at-requires c κs =
     let s = c .before .before in
     (crossing-wider (omega arith) (s .pre .1), omega arith)
 
-add-settle : tie.Need-add-settle Inv-loop μ-loop
-add-settle c = omega arith
+add-rescale-less : tie.Need-add-rescale-less Inv-loop μ-loop
+add-rescale-less c = omega arith
 
-mul-settle : tie.Need-mul-settle Inv-loop μ-loop
-mul-settle c = omega arith
+mul-rescale-less : tie.Need-mul-rescale-less Inv-loop μ-loop
+mul-rescale-less c = omega arith
 
-slice-copy-out-settle : tie.Need-slice-copy-out-settle Inv-loop μ-loop
-slice-copy-out-settle c = omega arith
+slice-copy-out-rescale-less : tie.Need-slice-copy-out-rescale-less Inv-loop μ-loop
+slice-copy-out-rescale-less c = omega arith
 
-settle-requires : tie.Need-settle-requires Inv-loop μ-loop
-settle-requires c κs =
+rescale-less-requires : tie.Need-rescale-less-requires Inv-loop μ-loop
+rescale-less-requires c κs =
     let l = c .before .before .before in
     let s = l .before in
     let i : l .loop .k < s .args .n = omega arith in
     let x : natAbs (value (l .loop .own) (s .args .at + l .loop .k)) ≤ 131070 = subst (λ (z : ℤ). natAbs z ≤ 131070) (sym (untouched l i)) (s .pre .0 .small (l .loop .k) i) in
-    (le-trans (abs-read w32 (value (l .loop .own) (s .args .at + l .loop .k))) x, read-bound w32 (c .before .crossed-at .ensures) (crossing-range (s .pre .1) (l .loop .k) i))
+    (le-trans (abs-read w32 (value (l .loop .own) (s .args .at + l .loop .k))) x, read-bound w32 (c .before .crossed-at .ensures) (crossing-range (s .pre .1) (l .loop .k) i), ends-read (s .pre .2))
 
 add-t17 : tie.Need-add-t17 Inv-loop μ-loop
 add-t17 c = omega arith
@@ -80,6 +81,7 @@ loop-less : tie.Need-loop-less Inv-loop μ-loop
 loop-less c = omega arith
 
 loop-again : tie.Need-loop-again Inv-loop μ-loop
+unfolding settled
 loop-again c =
     let l = c .before .before .before .before in
     let s = l .before in
@@ -88,7 +90,7 @@ loop-again c =
     let v : toZ w32 (ofZ w32 (value (l .loop .own) (a .at + l .loop .k))) ≡ value (now (a .own)) (a .at + l .loop .k) = ap (λ z. toZ w32 (ofZ w32 z)) (untouched l i) ∙ read-value (lit< tt) (s .pre .0) (l .loop .k) i in
     let q = read-is w32 (c .before .before .crossed-at .ok) (c .before .before .crossed-at .ensures) in (
       omega arith,
-      overwrite-step (now (a .own)) (a .at) (l .loop .k) (Laid s) (a .at + l .loop .k) refl (l .loop .inv .1) (read-is w32 (c .settle .ok) (c .settle .ensures) ∙ (λ j. settled (toZ w32 (ofZ w32 (a .least))) (toZ w32 (ofZ w32 (a .most))) (v j) (q j))) (omega (arith, s .pre .0 .inside)),
+      overwrite-step (now (a .own)) (a .at) (l .loop .k) (Laid s) (a .at + l .loop .k) refl (l .loop .inv .1) (read-is w32 (c .rescale-less .ok) (c .rescale-less .ensures) ∙ (λ j. settled (toZ w32 (ofZ w32 (a .least))) (toZ w32 (ofZ w32 (a .most))) (v j) (q j))) (omega (arith, s .pre .0 .inside)),
       simp length-set (l .loop .inv .2),
     )
 
@@ -111,10 +113,10 @@ settle-line-spec =
     μ-loop
     loop-holds
     crossed-at-requires
-    add-settle
-    mul-settle
-    slice-copy-out-settle
-    settle-requires
+    add-rescale-less
+    mul-rescale-less
+    slice-copy-out-rescale-less
+    rescale-less-requires
     add-t17
     mul-t18
     slice-set-from-own

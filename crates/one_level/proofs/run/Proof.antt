@@ -4,15 +4,17 @@ use mathlib.Core.Path.{_≡_, refl, sym, _∙_, ap, subst}
 use mathlib.Core.Bool.{false}
 use Prim.Native.Nat.{ℕ, _*_, _-_, _≤_}
 use native.Mathlib.Omega.{arith}
-use lib.IntN.{ℤ, pos}
+use lib.IntN.{ℤ, pos, natAbs}
 use lib.ListN.{length}
 use denote.Ref.{now}
 use mir.Syntax.{w32}
+use mir.Val.{toZ, ofZ}
 use borrow.Author.Needs.{needs}
-use Rattle.integers.proofs.Bounds.{read-is}
+use Rattle.integers.proofs.Bounds.{abs-neg, read-is, read-bound, bounds}
 use Rattle.planes.specs.Planes.{plane-of}
+use Rattle.filters.proofs.Quotients.{ends}
 use Rattle.work_buffer.specs.Buffer.{with-plane, Workable}
-use Rattle.working_plane.specs.Rounds.{working-plane}
+use Rattle.working_plane.specs.Rounds.{least-kept, most-kept, working-plane}
 use Rattle.working_plane.specs.Colours.{round-of, Working}
 use Rattle.working_plane.proofs.Working.{colour-projectable, none-laid, more-laid, after-working}
 use Rattle.one_level.proofs.Projected.{one-laid}
@@ -68,11 +70,25 @@ working l =
     let a = s .args in
     after-working false (a .colour) (a .top) (now (a .mosaic)) (now (a .green)) (now (a .work)) (room s) (l .loop .n) (l .loop .inv .1) (s .pre .3) (omega arith) (λ k. omega (arith, given-at l .before .before .shared-slice-known .given k))
 
+-- the ends of what is kept, as the machine reads them
+ends-are : (l : tie.At-loop Inv-loop μ-loop)
+    → (toZ w32 (ofZ w32 (l .before .before .least-kept .result)) ≡ least-kept (start l .args .top)) × (toZ w32 (ofZ w32 (l .before .most-kept .result)) ≡ most-kept (start l .args .top))
+ends-are l = (read-is w32 (l .before .before .least-kept .ok) (l .before .before .least-kept .ensures), read-is w32 (l .before .most-kept .ok) (l .before .most-kept .ensures))
+
+ends-small : (l : tie.At-loop Inv-loop μ-loop) → (natAbs (toZ w32 (ofZ w32 (l .before .before .least-kept .result))) ≤ 131070) × (natAbs (toZ w32 (ofZ w32 (l .before .most-kept .result))) ≤ 131070)
+unfolding least-kept most-kept
+ends-small l =
+    let top = start l .args .top in
+    (read-bound w32 (l .before .before .least-kept .ensures) (omega (arith, abs-neg (pos top))), read-bound w32 (l .before .most-kept .ensures) (omega arith))
+
 project-requires : tie.Need-project-requires Inv-loop μ-loop
 project-requires c κs =
     let l = c .before .before in
     let a = start l .args in
-    colour-projectable (a .colour) (now (a .mosaic)) (now (a .green)) (l .loop .work) (given-at l .given-of .ensures) (omega (arith, start l .good .0)) (workable l) (working l) (λ k. omega (arith, given-at l .before .shared-slice-known2 .given k))
+    let e = ends-small l in (
+      colour-projectable (a .colour) (now (a .mosaic)) (now (a .green)) (l .loop .work) (given-at l .given-of .ensures) (omega (arith, start l .good .0)) (workable l) (working l) (λ k. omega (arith, given-at l .before .shared-slice-known2 .given k)),
+      ends (search bounds depth 4) (search bounds depth 4) tt tt,
+    )
 
 put-observed-requires : tie.Need-put-observed-requires Inv-loop μ-loop
 put-observed-requires c κs =
@@ -96,7 +112,7 @@ loop-again c =
     let a = s .args in (
       omega arith,
       more-laid false (a .colour) (a .top) (now (a .mosaic)) (now (a .green)) (now (a .work)) (room s) (l .loop .n) (l .loop .inv .1)
-          (one-laid (a .colour) (a .top) (now (a .mosaic)) (now (a .green)) (l .loop .work) (given-at l .given-of .ensures) (omega (arith, workable l .work)) (read-is w32 (l .before .before .least-kept .ok) (l .before .before .least-kept .ensures)) (read-is w32 (l .before .most-kept .ok) (l .before .most-kept .ensures)) (p .project .ensures) (c .before .put-observed .ensures)),
+          (one-laid (a .colour) (a .top) (now (a .mosaic)) (now (a .green)) (l .loop .work) (given-at l .given-of .ensures) (omega (arith, workable l .work)) (ends-are l .0) (ends-are l .1) (p .project .ensures) (c .before .put-observed .ensures)),
       omega arith,
     )
 

@@ -4,6 +4,7 @@ use mathlib.Core.Path.{_∙_}
 use native.Mathlib.Omega.{arith}
 use denote.Ref.{now}
 use mir.Facts.{toZ-ofZ as back}
+use Rattle.filters.proofs.Quotients.{ends-read}
 use Rattle.sweep.specs.Sweep.{with-projected}
 use borrow.Author.Needs.{needs}
 use Rattle.sweep.proofs.project.Statement.{statement}
@@ -36,8 +37,8 @@ slice-aggregate-project-rows-8 c = search needs
 project-rows-requires : tie.Need-project-rows-requires
 project-rows-requires c κs =
     let p = c .before .before .before .before .before .before .before .before .before .before .pre in
-    let w = p .sizes .width-to in
-    ((p, omega (arith, w)), ((omega (arith, w), omega (arith, w), omega (arith, w), omega (arith, w), omega (arith, w)), (omega (arith, w), omega (arith, w))))
+    let w = p .0 .sizes .width-to in
+    ((p .0, omega (arith, w), ends-read (p .1)), ((omega (arith, w), omega (arith, w), omega (arith, w), omega (arith, w), omega (arith, w)), (omega (arith, w), omega (arith, w))))
 
 same-length : tie.Need-same-length
 same-length c = search needs

@@ -11,6 +11,7 @@ use mir.Syntax.{w32}
 use mir.Val.{toZ, ofZ}
 use mir.Facts.{toZ-ofZ as back}
 use Rattle.integers.proofs.Bounds.{fits-abs}
+use Rattle.filters.proofs.Quotients.{ends-read}
 use Rattle.rings.specs.declared.Level.{Level}
 use Rattle.rings.specs.Rows.{Sound, RingRows, ring-apart, ring-together}
 use Rattle.rings.specs.Stages.{reached, ring-row-laid}
@@ -173,7 +174,7 @@ settled-stage-requires c κs =
     let s = begun l in
     let a = s .args in
     let p = s .pre .0 .0 in
-    ((p .sizes, step l), settled-ready (a .given) (least s) (most s) (now (a .own)) (now (a .guide)) p (l .loop .t) (l .loop .inv .1 .plane) (apart-held q) (together-held q) (apart-room q) (together-room q))
+    ((p .sizes, step l, ends-read (s .pre .0 .2)), settled-ready (a .given) (least s) (most s) (now (a .own)) (now (a .guide)) p (l .loop .t) (l .loop .inv .1 .plane) (apart-held q) (together-held q) (apart-room q) (together-room q))
 
 add-t : tie.Need-add-t Inv-loop μ-loop
 add-t c = omega (arith, step (from (parts (c .before .before))))

@@ -6,6 +6,7 @@ use native.Mathlib.Omega.{arith}
 use denote.Ref.{now}
 use mir.Facts.{toZ-ofZ as back}
 use Rattle.integers.specs.Lists.{overwrite}
+use Rattle.filters.proofs.Quotients.{ends-read}
 use Rattle.lines.specs.declared.Five.{Five}
 use Rattle.lines.specs.Lines.{Run}
 use Rattle.planes.specs.Lists.{value}
@@ -61,7 +62,7 @@ settle-line-requires c κs =
     let t = q .before in
     let a = begun (t .before) .args in
     let rows = ready t in
-    (rows .0, subst (λ (v : Five). Crossing 134217728 (now (a .apart)) (now (a .together)) v (a .given .width)) (sym (q .five-slots .ensures)) (rows .1))
+    (rows .0, subst (λ (v : Five). Crossing 134217728 (now (a .apart)) (now (a .together)) v (a .given .width)) (sym (q .five-slots .ensures)) (rows .1), ends-read (begun (t .before) .pre .0 .2))
 
 same-length : tie.Need-same-length
 same-length c = search needs

@@ -1,18 +1,20 @@
 -- `update::update_places` meets its contract: green at the places is gathered, projected on the colour, and put back.
 -- Assumes nothing.
-use mathlib.Core.Path.{_≡_, _∙_}
-use Prim.Native.Nat.{_+_, _*_, _≤_}
+use mathlib.Core.Path.{_≡_, sym, _∙_, subst}
+use Prim.Native.Nat.{ℕ, _+_, _*_, _≤_}
 use native.Mathlib.Nat.{mul-le-mul-right}
 use native.Mathlib.Omega.{arith}
-use lib.IntN.{pos}
+use lib.IntN.{ℤ, pos, natAbs}
 use lib.ListN.{length}
 use denote.Ref.{now}
 use mir.Syntax.{w32}
 use mir.Val.{toZ}
 use mir.Facts.{toZ-pos}
 use borrow.Author.Needs.{needs}
+use Rattle.integers.proofs.Bounds.{bounds}
 use Rattle.planes.specs.Places.{half}
 use Rattle.planes.proofs.Places.{few-places, small-rows}
+use Rattle.filters.proofs.Quotients.{ends}
 use Rattle.sweep.specs.Sweep.{with-projected}
 use Rattle.update.specs.Places.{with-mixed}
 use Rattle.update.proofs.Places.{given, projectable, mixed-laid, mixed-narrow, green-laid}
@@ -70,6 +72,10 @@ gathered c = c .before .before
 abbrev begun : tie.After-gather → tie.Start
 begun g = g .before .before .before .before .before
 
+-- the ceiling, as the machine reads it
+top-small : {top : ℕ} → top ≤ 65535 → natAbs (toZ w32 top) ≤ 65535
+top-small {top} few = subst (λ (z : ℤ). natAbs z ≤ 65535) (sym (toZ-pos w32 {n = top} (omega (arith, few)))) few
+
 project-requires : tie.Need-project-requires
 unfolding half
 project-requires c κs =
@@ -77,7 +83,11 @@ project-requires c κs =
     let k = g .before .before .before in
     let s = begun g in
     let a = s .args in
-    projectable (a .width) (a .height) (a .a) (a .b) (s .pre .1) (s .pre .2) (now (a .mosaic)) (now (a .green)) (now (a .work)) (room s) (g .gather .ensures) (s .pre .0) (λ i. omega (arith, k .before .shared-slice-known .given i)) (λ i. omega (arith, k .slice-known .given i)) _ _ _ _ (omega arith) (omega arith) (omega arith) (record { sign = tt; small = omega arith })
+    let few : a .top ≤ 65535 = omega arith in
+    let top = top-small few in (
+      projectable (a .width) (a .height) (a .a) (a .b) (s .pre .1) (s .pre .2) (now (a .mosaic)) (now (a .green)) (now (a .work)) (room s) (g .gather .ensures) (s .pre .0) (λ i. omega (arith, k .before .shared-slice-known .given i)) (λ i. omega (arith, k .slice-known .given i)) _ _ _ _ (omega arith) (omega arith) (omega arith) (record { sign = tt; small = omega arith }),
+      ends (search bounds depth 4) (search bounds depth 4) tt tt,
+    )
 
 -- what the projection leaves
 mixed : (p : tie.After-project) → let a = begun (gathered (p .before)) .args in p .project .last .0 ≡ with-mixed (a .top) (a .width) (a .height) (a .a) (a .b) (now (a .mosaic)) (now (a .green)) (now (a .work))
