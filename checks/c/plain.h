@@ -53,12 +53,24 @@ struct guide {
     size_t down, across;
 };
 
-/* Holds the plane's details within the guide's, plus or minus the limit, joins and brings back. */
-void PLAIN(project)(size_t width, size_t height, int32_t *plane, struct guide guide, int32_t limit);
+/* The least and the most that a clip keeps. */
+struct ends {
+    int32_t least, most;
+};
+
+static inline int32_t clipped(struct ends kept, int32_t value)
+{
+    int32_t at_least = value < kept.least ? kept.least : value;
+    return at_least > kept.most ? kept.most : at_least;
+}
+
+/* Holds the plane's details within the guide's, plus or minus the limit, joins, brings back and clips. */
+void PLAIN(project)(size_t width, size_t height, int32_t *plane, struct guide guide, int32_t limit,
+                    struct ends kept);
 
 /* The same at two levels of the bank, on a guide row by row. */
 void PLAIN(project_two)(size_t width, size_t height, int32_t *plane, const uint16_t *guide, int32_t limit,
-                        int32_t second_limit);
+                        int32_t second_limit, struct ends kept);
 
 /* The place that index i means in a line of n. It lies at most 2 places outside. */
 static inline size_t reflected(size_t n, ptrdiff_t i)

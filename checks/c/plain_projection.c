@@ -19,15 +19,14 @@ struct sweep {
     int32_t limit;
     struct guide guide;
     int32_t *plane;
+    struct ends kept;
 };
 
-/* The join along the columns, taken off and brought back. C leaves negative shifts open, so clip first. */
-static void settle_line(size_t n, struct five x, int32_t *restrict plane)
+/* The join along the columns, taken off, brought back by a signed shift and clipped. */
+static void settle_line(size_t n, struct five x, struct ends kept, int32_t *restrict plane)
 {
     for (size_t k = 0; k < n; k++) {
-        int32_t sum = 1024 * plane[k] - high_join(x, k) + 512;
-        int32_t quotient = (sum > 0 ? sum : 0) >> 10;
-        plane[k] = quotient < CEILING ? quotient : CEILING;
+        plane[k] = clipped(kept, (1024 * plane[k] - high_join(x, k) + 512) >> 10);
     }
 }
 
@@ -58,17 +57,18 @@ static void parts_row(const struct sweep *s, size_t r)
 static void settle_row(const struct sweep *s, size_t r)
 {
     size_t n = s->lines.width;
-    settle_line(n, crossed_rows(s->lines, APART, TOGETHER, 5, r, 1), s->plane + r * n);
+    settle_line(n, crossed_rows(s->lines, APART, TOGETHER, 5, r, 1), s->kept, s->plane + r * n);
 }
 
 /* The sweep. A row is settled two rows later, when the parts that it needs are there. */
-void PLAIN(project)(size_t width, size_t height, int32_t *plane, struct guide guide, int32_t limit)
+void PLAIN(project)(size_t width, size_t height, int32_t *plane, struct guide guide, int32_t limit,
+                    struct ends kept)
 {
     alignas(64) int32_t numbers[LINES * (LONGEST + 2 * BESIDE)];
     struct lines lines = {width, height, numbers};
     struct passed line = {line_of(lines, LOW), line_of(lines, HIGH), line_of(lines, PARTS),
                           line_of(lines, MINUS), line_of(lines, PLUS)};
-    struct sweep s = {lines, line, limit, guide, plane};
+    struct sweep s = {lines, line, limit, guide, plane, kept};
     difference_row(&s, 0);
     for (size_t r = 0; r < height + 2; r++) {
         if (r + 1 < height) {

@@ -1,9 +1,9 @@
 /*
  * The rounds call in plain C.
  *
- * A colour's plane stands in the work buffer through all its rounds. A round projects it on green, at one level
- * of the bank or at two, and then puts the observed samples in. The projection at two levels needs no wide work
- * buffer: what is lent is zeroed.
+ * A colour's plane stands in the work buffer through all its rounds, where it may go below zero and above a
+ * sample. A round projects it on green, at one level of the bank or at two, and then puts the observed samples
+ * in. The projection at two levels needs no wide work buffer: what is lent is zeroed.
  */
 
 #include "plain.h"
@@ -38,20 +38,23 @@ static void widen(size_t n, const uint16_t *restrict samples, int32_t *restrict 
     }
 }
 
+/* After the last round, clipped to samples. */
 static void narrow(size_t n, const int32_t *restrict plane, uint16_t *restrict samples)
 {
     for (size_t k = 0; k < n; k++) {
-        samples[k] = (uint16_t)plane[k];
+        samples[k] = (uint16_t)clipped((struct ends){0, CEILING}, plane[k]);
     }
 }
 
 static void project(const struct colour *c)
 {
     struct guide green = {c->green, c->width, 1};
+    struct ends kept = {-CEILING, 2 * CEILING};
+    int32_t limit = 16 * c->threshold;
     if (c->two_levels) {
-        PLAIN(project_two)(c->width, c->height, c->plane, c->green, 16 * c->threshold, 256 * c->threshold);
+        PLAIN(project_two)(c->width, c->height, c->plane, c->green, limit, 16 * limit, kept);
     } else {
-        PLAIN(project)(c->width, c->height, c->plane, green, 16 * c->threshold);
+        PLAIN(project)(c->width, c->height, c->plane, green, limit, kept);
     }
 }
 

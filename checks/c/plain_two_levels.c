@@ -42,6 +42,7 @@ struct sweep {
     int32_t limit, second_limit;
     const uint16_t *guide;
     int32_t *plane;
+    struct ends kept;
 };
 
 /* Along a line that is low along the columns: what of band 2 lies outside the limit, and band 1. */
@@ -86,13 +87,15 @@ static void merge_line(size_t n, struct five x, const int32_t *restrict first_ap
     }
 }
 
-/* The join along the columns and the whole part of the rests, taken off and brought back by a signed shift. */
-static void settle_line(size_t n, struct five x, const int32_t *restrict rests, int32_t *restrict plane)
+/*
+ * The join along the columns and the whole part of the rests, taken off, brought back by a signed shift and
+ * clipped.
+ */
+static void settle_line(size_t n, struct five x, const int32_t *restrict rests, struct ends kept,
+                        int32_t *restrict plane)
 {
     for (size_t k = 0; k < n; k++) {
-        int32_t quotient = (1024 * plane[k] - high_join(x, k) + (-rests[k] >> 10) + 512) >> 10;
-        int32_t at_least = quotient < 0 ? 0 : quotient;
-        plane[k] = at_least > CEILING ? CEILING : at_least;
+        plane[k] = clipped(kept, (1024 * plane[k] - high_join(x, k) + (-rests[k] >> 10) + 512) >> 10);
     }
 }
 
@@ -145,7 +148,8 @@ static void settled_row(const struct sweep *s, size_t r)
 {
     size_t n = s->lines.width;
     low_line(n, crossed_rows(s->lines, RESTS, RESTS, OF_BOTH, r, 1), s->line.low);
-    settle_line(n, crossed_rows(s->lines, APART, TOGETHER, OF_BOTH, r, 1), s->line.low, s->plane + r * n);
+    settle_line(n, crossed_rows(s->lines, APART, TOGETHER, OF_BOTH, r, 1), s->line.low, s->kept,
+                s->plane + r * n);
 }
 
 /* A stage's row, if there is one when the differences are at row t. */
@@ -157,13 +161,13 @@ static inline void stage(const struct sweep *s, size_t t, size_t later, void row
 }
 
 void PLAIN(project_two)(size_t width, size_t height, int32_t *plane, const uint16_t *guide, int32_t limit,
-                        int32_t second_limit)
+                        int32_t second_limit, struct ends kept)
 {
     alignas(64) int32_t numbers[LINES * (LONGEST + 2 * BESIDE)];
     struct lines lines = {width, height, numbers};
     struct passed line = {line_of(lines, LOW), line_of(lines, HIGH), line_of(lines, PARTS),
                           line_of(lines, MINUS), line_of(lines, PLUS)};
-    struct sweep s = {lines, line, limit, second_limit, guide, plane};
+    struct sweep s = {lines, line, limit, second_limit, guide, plane, kept};
     for (size_t t = 0; t < height + SETTLED_LATER; t++) {
         stage(&s, t, 0, difference_row);
         stage(&s, t, FIRST_LATER, first_row);

@@ -40,7 +40,8 @@ static void update_places(size_t width, struct places at, const uint16_t *mosaic
     for (size_t i = 0; i < at.rows; i++) {
         gather_row(at.columns, green + at.first + i * down, work + i * at.columns);
     }
-    PLAIN(project)(at.columns, at.rows, work, (struct guide){mosaic + at.first, down, 2}, 0);
+    struct guide colour = {mosaic + at.first, down, 2};
+    PLAIN(project)(at.columns, at.rows, work, colour, 0, (struct ends){0, CEILING});
     for (size_t i = 0; i < at.rows; i++) {
         scatter_row(at.columns, work + i * at.columns, green + at.first + i * down);
     }

@@ -51,6 +51,12 @@ impl Chance {
         samples
     }
 
+    /// The samples, each up to 3 nearer to the middle of their range.
+    pub fn nearly(&mut self, samples: &[u16]) -> Vec<u16> {
+        let near = |sample, by| if sample < 2048 { sample + by } else { sample - by };
+        samples.iter().map(|&sample| near(sample, self.between(0, 3) as u16)).collect()
+    }
+
     /// Any samples of 16 bits, in range or not: what a lent plane may have held before.
     pub fn any_samples(&mut self, count: usize) -> Vec<u16> {
         let mut samples = Vec::new();
@@ -99,6 +105,12 @@ impl Chance {
         let threshold = self.one_of(&[0, 1, 20, 20, 300, any, 4094, 4095]);
         let (layout, rounds) = (self.layout(), self.one_of(&[1, 1, 2, 3]));
         Fields { width, height, layout, rounds, threshold }
+    }
+
+    /// Fields of a frame of this size, with two rounds to eight and a threshold that holds much; the layout by chance.
+    pub fn several_rounds(&mut self, width: usize, height: usize) -> Fields {
+        let (rounds, threshold) = (self.one_of(&[2, 3, 5, 8]), self.one_of(&[0, 0, 1, 20, 300]));
+        Fields { width, height, layout: self.layout(), rounds, threshold }
     }
 
     /// Fields in range; width and height are 2 to 9.

@@ -73,7 +73,7 @@ impl Tally {
 #[cfg(test)]
 mod tests {
     use super::*;
-    use crate::bank::bring_back;
+    use crate::bank::whole_divided;
     use crate::chance::Chance;
 
     #[test]
@@ -103,15 +103,16 @@ mod tests {
         let of_green = |k: &usize| !at.contains(k);
         let greens: u16 = (0..4).filter(of_green).map(|k| mosaic[k]).sum();
         let green = [0, 1, 2, 3].map(|k| if of_green(&k) { mosaic[k] } else { (greens + 1) / 2 });
-        let total = |plane: [u16; 4]| plane.iter().map(|&value| i32::from(value)).sum::<i32>();
+        let [signed_mosaic, signed_green] = [mosaic, green].map(|plane| plane.map(i64::from));
+        let total = |plane: [i64; 4]| plane.iter().sum::<i64>();
         let [red, blue] = at.map(|place| {
-            let mut plane = [mosaic[place]; 4];
+            let mut plane = [signed_mosaic[place]; 4];
             for _ in 0..rounds {
-                let sum = |value: u16| 256 * (total(plane) - total(green)) + 1024 * i32::from(value);
-                plane = green.map(|value| bring_back(sum(value)));
-                plane[place] = mosaic[place];
+                let sum = |value: i64| 256 * (total(plane) - total(signed_green)) + 1024 * value;
+                plane = signed_green.map(|value| whole_divided(sum(value), 1024).clamp(-4095, 8190));
+                plane[place] = signed_mosaic[place];
             }
-            plane.to_vec()
+            plane.map(|value| value.clamp(0, 4095) as u16).to_vec()
         });
         [red, green.to_vec(), blue]
     }

@@ -14,6 +14,8 @@ pub mod finishing;
 pub mod finishing_examples;
 pub mod frame_calls;
 pub mod header;
+pub mod holes;
+pub mod kept;
 pub mod low_band;
 pub mod mosaic;
 pub mod mosaics;

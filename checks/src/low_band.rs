@@ -48,13 +48,25 @@ pub fn mixed_sum(
     width: usize,
     height: usize,
     k: usize,
-    low: &[u16],
+    low: &[impl Copy + Into<i64>],
     detail: &[u16],
 ) -> i64 {
     let weights = weights(two_levels, width, height, k / width, k % width);
-    let differences = low.iter().zip(detail).map(|(&low, &detail)| i64::from(low) - i64::from(detail));
+    let differences = low.iter().zip(detail).map(|(&low, &detail)| low.into() - i64::from(detail));
     let of_the_low = weights.iter().zip(differences).map(|(weight, value)| weight * value).sum::<i64>();
     times(two_levels) * i64::from(detail[k]) + of_the_low
+}
+
+/// A colour and green at the ends of a sample's range, so that with T = 0 every value moves the sum at this place towards this
+/// end as far as can be. The weights of green's values are those of the colour's with the other sign, and as many more at the
+/// place itself as the sum is times the paper's.
+pub fn towards(two_levels: bool, width: usize, height: usize, place: usize, end: u16) -> [Vec<u16>; 2] {
+    let weights = weights(two_levels, width, height, place / width, place % width);
+    let of_sign = |weight: i64| if weight < 0 { 4095 - end } else { end };
+    let coloured = weights.iter().map(|&weight| of_sign(weight)).collect();
+    let mut green: Vec<u16> = weights.iter().map(|&weight| of_sign(-weight)).collect();
+    green[place] = of_sign(times(two_levels) - weights[place]);
+    [coloured, green]
 }
 
 /// Every place of small square planes with each end of a sample's range: what is asserted of the largest sums there.

@@ -1,6 +1,7 @@
 //! The mosaics, and the planes of samples, that the tests try.
 
 use crate::chance::Chance;
+use crate::mosaic::{Colour, Mosaic};
 
 /// A name and the samples.
 pub type Kind = (String, Vec<u16>);
@@ -79,6 +80,54 @@ fn by_parities(width: usize, height: usize) -> Vec<Kind> {
     (0..16).map(|set| (format!("white at the parities {set:04b}"), white(set))).collect()
 }
 
+/// How many places a square with a hole has each way, and how many lie between two.
+pub const SQUARES: [[usize; 2]; 3] = [[3, 2], [7, 4], [9, 4]];
+
+/// White squares on black, one of them in the middle. In the middle of each stands this.
+fn squares(width: usize, height: usize, [side, apart]: [usize; 2], middle: u16) -> Vec<u16> {
+    let step = side + apart;
+    // the place in its square, or behind it, of place i in a line of n
+    let inside = |n: usize, i: usize| (step * n + i - n / 2 + side / 2) % step;
+    filled(width, height, |i, j| {
+        let (i, j) = (inside(height, i), inside(width, j));
+        match (i.max(j) < side, [i, j] == [side / 2; 2]) {
+            (true, true) => middle,
+            (true, false) => 4095,
+            (false, _) => 0,
+        }
+    })
+}
+
+/// A name, green, and red or blue.
+pub type Holed = (String, [Vec<u16>; 2]);
+
+/// Green with black holes in white squares, and for red and blue the squares' opposite, without a hole: rounds pull them below
+/// zero there. And the opposite of both, where rounds pull them above white.
+pub fn holed(width: usize, height: usize, squares_of: [usize; 2]) -> [Holed; 2] {
+    let green = squares(width, height, squares_of, 0);
+    let coloured = opposite(&squares(width, height, squares_of, 4095));
+    let opposites = [opposite(&green), opposite(&coloured)];
+    let [side, _] = squares_of;
+    [
+        (format!("white squares of {side} with black holes"), [green, coloured]),
+        (format!("black squares of {side} with white holes"), opposites),
+    ]
+}
+
+/// The holes of every square.
+pub fn all_holed(width: usize, height: usize) -> impl Iterator<Item = Holed> {
+    SQUARES.into_iter().flat_map(move |squares_of| holed(width, height, squares_of))
+}
+
+/// The mosaic of a green, and of a plane that red and blue share.
+pub fn of_two(width: usize, height: usize, layout: u32, green: &[u16], coloured: &[u16]) -> Vec<u16> {
+    let mosaic = Mosaic { width, height, layout, samples: &[] };
+    filled(width, height, |i, j| match mosaic.colour(i as i64, j as i64) {
+        Colour::Green => green[i * width + j],
+        _ => coloured[i * width + j],
+    })
+}
+
 /// At each of the four parities of row and column the samples of a kind by chance.
 fn mixed(chance: &mut Chance, width: usize, height: usize, kinds: &[Kind]) -> Vec<u16> {
     let chosen = [(); 4].map(|_| &kinds[chance.place(kinds.len())].1);
@@ -90,12 +139,25 @@ pub fn kinds(chance: &mut Chance, width: usize, height: usize) -> Vec<Kind> {
     let mut kinds = random(chance, width, height);
     kinds.extend(in_turn(width, height));
     kinds.extend(steps(width, height));
+    kinds.extend(all_holed(width, height).map(|(name, [green, _])| (name, green)));
     let unmixed = kinds.clone();
     kinds.extend(by_parities(width, height));
     for _ in 0..12 {
         kinds.push(("a kind for each parity".to_string(), mixed(chance, width, height, &unmixed)));
     }
     kinds
+}
+
+/// Black for white, and white for black.
+pub fn opposite(samples: &[u16]) -> Vec<u16> {
+    samples.iter().map(|sample| 4095 - sample).collect()
+}
+
+/// These samples and random ones in turn, in squares of 26 places each way.
+pub fn beside_random(chance: &mut Chance, width: usize, height: usize, samples: &[u16]) -> Vec<u16> {
+    let random = chance.samples(samples.len());
+    let of = |i: usize, j: usize| if (i / 26 + j / 26) % 2 == 0 { samples } else { &random };
+    filled(width, height, |i, j| of(i, j)[i * width + j])
 }
 
 /// One value at a place, another at all others.

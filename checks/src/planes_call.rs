@@ -3,6 +3,7 @@
 
 use crate::buffers::Buffer;
 use crate::chance::Chance;
+use crate::kept::Told;
 use crate::mosaic::has_two_levels;
 use crate::packet::Fields;
 use crate::refusals::{
@@ -29,6 +30,12 @@ pub trait PlanesCall: Clone {
 
     /// A plane of so many samples, as the call takes it.
     fn plane(chance: &mut Chance, count: usize) -> Vec<u16>;
+
+    /// The planes that the rounds begin with, of an accepted call.
+    fn before_rounds(fields: &Fields, mosaic: &[u16], planes: &Planes) -> Planes;
+
+    /// A frame with this green, and this red and blue.
+    fn of_two(chance: &mut Chance, fields: Fields, green: &[u16], coloured: &[u16]) -> Ask<Self>;
 }
 
 /// What the call is asked with: the fields, the mosaic, the three planes and the lengths of the work buffers.
@@ -98,6 +105,13 @@ impl<C: PlanesCall> Ask<C> {
         let (number, planes) = self.compared(kind);
         assert_eq!(number, 0, "{} of {:?}, {kind}", C::NAME, self.fields);
         planes
+    }
+
+    /// An accepted call, and whether it tells each of these ranges from what a working plane keeps.
+    pub fn accepted_and_told(&self, kind: &str, others: &mut [Told]) {
+        let [red, _, blue] = self.accepted(kind);
+        let given = C::before_rounds(&self.fields, &self.mosaic, &self.planes);
+        others.iter_mut().for_each(|told| told.add(&self.fields, &self.mosaic, &given, [&red, &blue]));
     }
 }
 

@@ -44,9 +44,9 @@ impl Green {
         Green { width, height, first, second }
     }
 
-    /// A plane of samples, projected on green with this threshold: details are held within ± 16·T, those of the second level
-    /// within ± 256·T; only the whole is brought back.
-    pub fn projected(&self, plane: &[u16], threshold: u32) -> Vec<u16> {
+    /// A working plane, projected on green with this threshold: details are held within ± 16·T, those of the second level
+    /// within ± 256·T; only the whole is brought back. Not yet clipped.
+    pub fn projected(&self, plane: &[i64], threshold: u32) -> Vec<i64> {
         let own = Plane::given(self.width, self.height, plane);
         let threshold = i64::from(threshold);
         let (sums, times) = match &self.second {
@@ -56,7 +56,7 @@ impl Green {
                 (two_level_sums(&own, [&self.first, second], limits), 1_048_576)
             }
         };
-        sums.values.iter().map(|&sum| whole_divided(sum, times).clamp(0, 4095) as u16).collect()
+        sums.values.iter().map(|&sum| whole_divided(sum, times)).collect()
     }
 }
 
@@ -140,7 +140,8 @@ mod tests {
         }
     }
 
-    /// The same on a green of 100, and brought back: the details are the same. A half goes up, below zero too.
+    /// The same on a green of 100, and brought back: the details are the same. A half goes up, below zero too. What a plane
+    /// has more everywhere, it has more afterwards, be it below zero or above a sample.
     #[test]
     fn three_places_brought_back() {
         let cases = [
@@ -154,7 +155,10 @@ mod tests {
         for (own, threshold, due) in cases {
             for (width, height) in [(3, 1), (1, 3)] {
                 let green = Green::split(width, height, &[100; 3], true);
-                assert_eq!(green.projected(&own, threshold), due, "{own:?}, {threshold}");
+                for more in [0, -200, -4195, 8082] {
+                    let [own, due] = [own, due].map(|line| line.map(|value| value + more));
+                    assert_eq!(green.projected(&own, threshold), due, "{own:?}, {threshold}");
+                }
             }
         }
     }

@@ -1,22 +1,41 @@
-//! Document 01, "Rounds", and Req 01, the rounds with two levels.
+//! Document 01, "Rounds", Req 01, the rounds with two levels, and Req 05, what a working plane keeps between rounds.
 
 use crate::mosaic::{has_two_levels, in_range, Colour, Mosaic};
 use crate::packet::{fields_refusal, Fields};
 use crate::projection::Green;
 
-/// Puts the observed samples of a colour into its plane.
-fn put_observed(mosaic: &Mosaic, colour: Colour, plane: &mut [u16]) {
-    for (k, sample) in plane.iter_mut().enumerate() {
+/// The least and the most that a working plane keeps between rounds.
+pub const KEPT: [i64; 2] = [-4095, 8190];
+
+/// Puts the observed samples of a colour into its working plane.
+fn put_observed(mosaic: &Mosaic, colour: Colour, plane: &mut [i64]) {
+    for (k, value) in plane.iter_mut().enumerate() {
         if mosaic.colour((k / mosaic.width) as i64, (k % mosaic.width) as i64) == colour {
-            *sample = mosaic.samples[k];
+            *value = mosaic.samples[k].into();
         }
     }
 }
 
-/// One round for red or for blue.
-fn round(mosaic: &Mosaic, colour: Colour, green: &Green, threshold: u32, plane: &mut [u16]) {
-    plane.copy_from_slice(&green.projected(plane, threshold));
-    put_observed(mosaic, colour, plane);
+/// Red and blue after the rounds, if a working plane keeps from `least` to `most` between them. After the last it is clipped
+/// to 0..4,095.
+pub fn rounds_keeping(
+    [least, most]: [i64; 2],
+    fields: &Fields,
+    mosaic: &[u16],
+    [red, green, blue]: [&[u16]; 3],
+) -> [Vec<u16>; 2] {
+    let Fields { width, height, layout, rounds, threshold } = *fields;
+    let mosaic = Mosaic { width, height, layout, samples: mosaic };
+    let green = Green::split(width, height, green, has_two_levels(layout));
+    [(Colour::Red, red), (Colour::Blue, blue)].map(|(colour, given)| {
+        let mut plane: Vec<i64> = given.iter().map(|&sample| sample.into()).collect();
+        for _ in 0..rounds {
+            let projected = green.projected(&plane, threshold);
+            plane = projected.into_iter().map(|value| value.clamp(least, most)).collect();
+            put_observed(&mosaic, colour, &mut plane);
+        }
+        plane.into_iter().map(|value| value.clamp(0, 4095) as u16).collect()
+    })
 }
 
 /// How many numbers the wide work buffer has at least: 8·w·h with two levels; with one it is neither asked for nor touched.
@@ -74,14 +93,10 @@ pub fn rounds(
     if ![&*red, green, &*blue].into_iter().all(in_range) {
         return Err(10);
     }
-    let Fields { width, height, layout, rounds, threshold } = *fields;
-    let mosaic = Mosaic { width, height, layout, samples: mosaic };
-    let green = Green::split(width, height, green, has_two_levels(layout));
-    for _ in 0..rounds {
-        round(&mosaic, Colour::Red, &green, threshold, red);
-        round(&mosaic, Colour::Blue, &green, threshold, blue);
-    }
-    work[..8 * width * height].fill(0);
+    let [red_after, blue_after] = rounds_keeping(KEPT, fields, mosaic, [red, green, blue]);
+    red.copy_from_slice(&red_after);
+    blue.copy_from_slice(&blue_after);
+    work[..8 * mosaic.len()].fill(0);
     wide_work[..wide_needed(fields)].fill(0);
     Ok(())
 }
@@ -91,8 +106,8 @@ mod tests {
     use super::*;
     use crate::bank::whole_divided;
     use crate::chance::Chance;
-    use crate::low_band::{mixed_sum, times};
-    use crate::mosaics::OF_TWO;
+    use crate::low_band::{mixed_sum, times, towards};
+    use crate::mosaics::{opposite, OF_TWO};
     use crate::turns::Frame;
 
     /// Red, green and blue.
@@ -110,19 +125,26 @@ mod tests {
         [red, blue]
     }
 
+    /// A working plane before the first round.
+    fn working(plane: &[u16]) -> Vec<i64> {
+        plane.iter().map(|&sample| sample.into()).collect()
+    }
+
     fn random_planes(chance: &mut Chance, count: usize) -> Planes {
         [(); 3].map(|_| chance.samples(count))
     }
 
-    /// The second round by hand: red adds up to 410, blue to 35, and band 1 joins to 256 times that; green's band 4 joins
-    /// to −10,240 at the first place and the last, to 10,240 at the others. 2 by 2 has no detail at the second level.
+    /// The second round by hand: red adds up to 410, and blue, which the first leaves at −5 15 15 5, to 30; band 1 joins to
+    /// 256 times that; green's band 4 joins to −10,240 at the first place and the last, to 10,240 at the others. Blue is then
+    /// −2 18 18 5, which adds up to 39. 2 by 2 has no detail at the second level.
     #[test]
-    fn case_k_and_a_second_round() {
+    fn case_k_and_more_rounds() {
         let planes = [vec![100; 4], vec![40, 60, 60, 40], vec![5; 4]];
         let due = [
             [[100, 100, 100, 100], [5, 5, 5, 5]],
             [[100, 110, 110, 90], [0, 15, 15, 5]],
-            [[100, 113, 113, 93], [0, 19, 19, 5]],
+            [[100, 113, 113, 93], [0, 18, 18, 5]],
+            [[100, 115, 115, 95], [0, 20, 20, 5]],
         ];
         for (rounds, due) in (0..).zip(due) {
             for layout in [0, 4] {
@@ -182,10 +204,13 @@ mod tests {
             let samples = chance.samples(width * height);
             let planes = random_planes(chance, width * height);
             let mosaic = Mosaic { width, height, layout: fields.layout, samples: &samples };
-            let [mut red, _, mut blue] = planes.clone();
-            put_observed(&mosaic, Colour::Red, &mut red);
-            put_observed(&mosaic, Colour::Blue, &mut blue);
-            assert_eq!(rounds_of(&fields, &samples, &planes), [red, blue], "{fields:?}");
+            let due = [(Colour::Red, &planes[0]), (Colour::Blue, &planes[2])].map(|(colour, plane)| {
+                let mut due = working(plane);
+                put_observed(&mosaic, colour, &mut due);
+                due
+            });
+            let found = rounds_of(&fields, &samples, &planes).map(|plane| working(&plane));
+            assert_eq!(found, due, "{fields:?}");
         }
     }
 
@@ -199,14 +224,23 @@ mod tests {
         green: &[u16],
     ) -> Vec<u16> {
         let two_levels = mosaic.layout >= 4;
-        let mut plane = first.to_vec();
+        let mut plane = working(first);
         for _ in 0..rounds {
             let sum = |k| mixed_sum(two_levels, mosaic.width, mosaic.height, k, &plane, green);
-            let projected = |k| whole_divided(sum(k), times(two_levels)).clamp(0, 4095) as u16;
-            plane = (0..plane.len()).map(projected).collect();
+            let kept = |k| whole_divided(sum(k), times(two_levels)).clamp(-4095, 8190);
+            plane = (0..plane.len()).map(kept).collect();
             put_observed(mosaic, colour, &mut plane);
         }
-        plane
+        plane.iter().map(|&value| value.clamp(0, 4095) as u16).collect()
+    }
+
+    /// The rounds of this frame with T = 0, by both ways.
+    fn assert_by_the_low_band(fields: &Fields, samples: &[u16], planes: &Planes) {
+        let Fields { width, height, layout, rounds, .. } = *fields;
+        let mosaic = Mosaic { width, height, layout, samples };
+        let due = [(Colour::Red, &planes[0]), (Colour::Blue, &planes[2])]
+            .map(|(colour, plane)| by_the_low_band(&mosaic, colour, rounds, plane, &planes[1]));
+        assert_eq!(rounds_of(fields, samples, planes), due, "{fields:?}");
     }
 
     #[test]
@@ -217,11 +251,55 @@ mod tests {
                 let fields = Fields { layout, threshold: 0, ..chance.few_rounds(width, height) };
                 let samples = chance.samples(width * height);
                 let planes = random_planes(chance, width * height);
-                let mosaic = Mosaic { width, height, layout, samples: &samples };
-                let due = [(Colour::Red, &planes[0]), (Colour::Blue, &planes[2])].map(|(colour, plane)| {
-                    by_the_low_band(&mosaic, colour, fields.rounds, plane, &planes[1])
-                });
-                assert_eq!(rounds_of(&fields, &samples, &planes), due, "{fields:?}");
+                assert_by_the_low_band(&fields, &samples, &planes);
+            }
+        }
+    }
+
+    /// 4 by 4 with T = 0 by hand. Along a line of four, band 1 alone has the weights 16 18 0 −2, 9 16 7 0, 0 7 16 9 and
+    /// −2 0 18 16 by 32. The colours less green are −4,095·s·s, where s is 1 1 1 −1 along rows and along columns, but 0 at the
+    /// first place. The weights make 36 32 14 0 of s, and 16 9 0 −2 of a one at the first place: so the first round leaves
+    /// them apart by −4,095·(36·36 − 16·16), −4,095·(36·32 − 16·9) and so on, by 1,024. At the first place green is 0, and
+    /// −4,159 comes back, of which −4,095 is kept. The layout observes neither colour there.
+    ///
+    /// At row 1, column 1, the second round joins, beside 1,024 times green's 4,095, 9 times (9·−4,095 + 16·−4,095 +
+    /// 7·−2,016), 16 times (9·−4,031 + 16·−3,771 + 7·−1,792) and 7 times (9·−2,016 + 16·−4,095 + 7·−784), together
+    /// −3,418,991. Brought back that is 756; if −4,159 were kept, 751. In the opposite planes 8,254 comes back, and 8,190 is
+    /// kept.
+    #[test]
+    fn both_ends_of_what_is_kept() {
+        let (w, b) = (4095, 0);
+        let coloured = vec![b, b, b, w, b, b, b, w, b, b, b, w, w, w, w, b];
+        let green = vec![b, w, w, b, w, w, w, b, w, w, w, b, b, b, b, w];
+        let come_back = [-4159, 64, 2079, -128, 64, 324, 2303, -72, 2079, 2303, 3311, 0, -128, -72, 0, 4111];
+        let projected = |coloured: &[u16], green: &[u16]| {
+            Green::split(4, 4, green, false).projected(&working(coloured), 0)
+        };
+        assert_eq!(projected(&coloured, &green), come_back);
+        let opposites = [opposite(&coloured), opposite(&green)];
+        assert_eq!(projected(&opposites[0], &opposites[1]), come_back.map(|value| 4095 - value));
+        let fields = Fields { width: 4, height: 4, layout: 1, rounds: 2, threshold: 0 };
+        for ([coloured, green], due) in [([coloured, green], 756), (opposites, 4095 - 756)] {
+            let [red, blue] = rounds_of(&fields, &coloured, &[coloured.clone(), green, coloured.clone()]);
+            assert_eq!([red[5], blue[5]], [due; 2]);
+        }
+    }
+
+    /// Planes that go beyond either end of what is kept, by both ways. If all were kept, each frame would end otherwise.
+    #[test]
+    fn beyond_both_ends_by_the_low_band() {
+        let chance = &mut Chance(0x5851_f42d_4c95_7f2d);
+        for (width, height) in (6..=9).flat_map(|width| (6..=9).map(move |height| (width, height))) {
+            for (layout, end) in (0..8).flat_map(|layout| [(layout, 0), (layout, 4095)]) {
+                let place = chance.one_of(&[0, width - 1, width * height - 1]);
+                let [coloured, green] = towards(has_two_levels(layout), width, height, place, end);
+                let rounds = chance.between(2, 5) as u32;
+                let fields = Fields { width, height, layout, rounds, threshold: 0 };
+                let planes = [coloured.clone(), green, coloured.clone()];
+                assert_by_the_low_band(&fields, &coloured, &planes);
+                let given = planes.each_ref().map(|plane| &plane[..]);
+                let all_kept = rounds_keeping([i64::MIN, i64::MAX], &fields, &coloured, given);
+                assert!(rounds_of(&fields, &coloured, &planes) != all_kept, "{fields:?}, place {place}");
             }
         }
     }

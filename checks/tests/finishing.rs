@@ -6,8 +6,9 @@ use checks::buffers::{assert_same, Number};
 use checks::chance::Chance;
 use checks::estimate::estimates_of;
 use checks::finishing::{finish, finished_of};
-use checks::mosaic::{has_two_levels, Colour, Mosaic};
-use checks::mosaics::{filled, kinds, longer_lengths, spike};
+use checks::holes;
+use checks::mosaic::has_two_levels;
+use checks::mosaics::{kinds, longer_lengths, of_two, opposite, spike, SQUARES};
 use checks::packet::Fields;
 use checks::planes_call::{self, settings, Call, Planes, PlanesCall, COLOURS};
 use checks::planes_call::{large_frames_refused, lengths_refused, samples_refused, work_refused};
@@ -30,6 +31,15 @@ impl PlanesCall for Finishing {
     /// The planes are filled: what they held before does not count, in range or not.
     fn plane(chance: &mut Chance, count: usize) -> Vec<u16> {
         chance.any_samples(count)
+    }
+
+    fn before_rounds(fields: &Fields, mosaic: &[u16], _: &Planes) -> Planes {
+        finished_of(&Fields { rounds: 0, ..*fields }, mosaic)
+    }
+
+    fn of_two(chance: &mut Chance, fields: Fields, green: &[u16], coloured: &[u16]) -> Ask {
+        let Fields { width, height, layout, .. } = fields;
+        of_mosaic(chance, fields, &of_two(width, height, layout, green, coloured))
     }
 }
 
@@ -66,12 +76,8 @@ fn all_kinds(chance: &mut Chance, width: usize, height: usize, layout: u32) {
     for (kind, samples) in kinds(chance, width, height) {
         let fields = Fields { layout, ..chance.few_rounds(width, height) };
         of_mosaic(chance, fields, &samples).accepted(&kind);
-        let mosaic = Mosaic { width, height, layout, samples: &samples };
-        let opposite = filled(width, height, |i, j| match mosaic.colour(i as i64, j as i64) {
-            Colour::Green => samples[i * width + j],
-            _ => 4095 - samples[i * width + j],
-        });
-        of_mosaic(chance, fields, &opposite).accepted(&format!("{kind}, red and blue the opposite"));
+        let ask = Finishing::of_two(chance, fields, &samples, &opposite(&samples));
+        ask.accepted(&format!("{kind}, red and blue the opposite"));
     }
 }
 
@@ -133,7 +139,7 @@ fn large_frames() {
             random(chance, other, length, 3, 20).accepted("random");
         }
     }
-    for (width, height, rounds) in [(2048, 2048, 1), (1025, 300, 3), (127, 513, 5)] {
+    for (width, height, rounds) in [(1025, 300, 3), (127, 513, 5)] {
         let ask = random(chance, width, height, rounds, 20);
         let two_levels = Fields { layout: ask.fields.layout | 4, ..ask.fields };
         Ask { fields: two_levels, ..ask }.accepted("random");
@@ -141,6 +147,21 @@ fn large_frames() {
     let fields = Fields { width: 600, height: 401, layout: 2, rounds: 2, threshold: 20 };
     let mosaic = chance.samples(600 * 401);
     of_mosaic(chance, fields, &mosaic).accepted("random");
+}
+
+#[test]
+fn holes_of_every_size() {
+    holes::of_every_size::<Finishing>();
+}
+
+#[test]
+fn holes_in_large_frames() {
+    holes::in_the_largest_frames::<Finishing>([(2, SQUARES[1]), (5, SQUARES[2])]);
+}
+
+#[test]
+fn holes_beyond_what_is_kept() {
+    holes::beyond_what_is_kept::<Finishing>();
 }
 
 /// What a call leaves that skips a step, exchanges two, or takes the other number of levels.
@@ -179,12 +200,12 @@ fn no_step_is_left_out() {
     }
 }
 
-/// Held within some hundreds of green, planes by chance still change in the last of 64 rounds.
+/// Held within a hundred of green, planes by chance still change in the last of 64 rounds.
 #[test]
 fn many_rounds() {
     let chance = &mut Chance(0xda94_2042_e4dd_58b5);
     for (width, height) in [(31, 18), (40, 9), (16, 33)] {
-        for (rounds, threshold) in [33, 63, 64].into_iter().flat_map(|n| [100, 300].map(|t| (n, t))) {
+        for (rounds, threshold) in [33, 63, 64].into_iter().flat_map(|n| [50, 100].map(|t| (n, t))) {
             let ask = random(chance, width, height, rounds, threshold);
             let found = ask.accepted("random");
             let one_less = finished_of(&Fields { rounds: rounds - 1, ..ask.fields }, &ask.mosaic);

@@ -23,7 +23,7 @@ const READINGS: [(&str, u32); 3] = [("DEMOSAIC_STARTING", 0), ("DEMOSAIC_DARK", 
 
 const LIMITS: [(&str, u32); 7] = [
     ("DEMOSAIC_VERSION_MAJOR", 4),
-    ("DEMOSAIC_VERSION_MINOR", 4),
+    ("DEMOSAIC_VERSION_MINOR", 5),
     ("DEMOSAIC_MIN_SIDE", 2),
     ("DEMOSAIC_MAX_SIDE", 2048),
     ("DEMOSAIC_MAX_ROUNDS", 64),

@@ -7,6 +7,7 @@ use bank::Bank;
 use calls::PROGRAMS;
 use checks::chance::Chance;
 use checks::mosaic::has_two_levels;
+use checks::mosaics::{all_holed, of_two};
 use clock::least_times;
 use frame::Frame;
 use picture::picture;
@@ -36,7 +37,7 @@ fn finished(layout: u32) -> &'static [(u32, u32)] {
 /// A round's time is that of so many rounds less that of one: what a call does once does not count in it.
 const MORE: u32 = 5;
 
-/// Small frames of every layout, pictures and chance, the bank's smallest planes, and those with room for a spot.
+/// Small frames of every layout, pictures, chance and holes, the bank's smallest planes, and those with room for a spot.
 fn check_small(chance: &mut Chance) {
     for (width, height) in [(1, 1), (1, 6), (7, 1), (2, 2), (3, 2), (37, 29)] {
         let mut bank = Bank::new(width, height, &chance.samples(width * height));
@@ -46,7 +47,9 @@ fn check_small(chance: &mut Chance) {
     for (width, height) in [(2, 2), (3, 2), (2, 5), (4, 7), (5, 5), (9, 6), (37, 29)] {
         for layout in 0..8 {
             let mosaics = [picture(chance, width, height, layout), chance.samples(width * height)];
-            for mosaic in mosaics {
+            let holes = all_holed(width, height)
+                .map(|(_, [green, coloured])| of_two(width, height, layout, &green, &coloured));
+            for mosaic in mosaics.into_iter().chain(holes) {
                 let mut frame = Frame::new(width, height, layout, mosaic);
                 frame.check();
                 frame.check_refused();
