@@ -91,15 +91,15 @@ abs-between {lo} {hi} {z} {m} h k p q = go lo hi z (h .le) (k .le) p q
     go (negsuc a) hi (negsuc c) h k p q = let l : c ≤ a = leb→le c a h in omega arith
 
 -- and what is at most n from 0 lies within −n..n
-pub from-opposite : (n : ℕ) (z : ℤ) → natAbs z ≤ n → negℤ (pos n) ≤ℤ z
-from-opposite zero (pos a) b = record { le = le→leb 0 a (omega arith) }
-from-opposite (suc n) (pos a) b = record { le = tt }
-from-opposite zero (negsuc a) b = absurd (omega arith)
-from-opposite (suc n) (negsuc a) b = record { le = le→leb a n (omega arith) }
+pub abs-from : (n : ℕ) (z : ℤ) → natAbs z ≤ n → negℤ (pos n) ≤ℤ z
+abs-from zero (pos a) b = record { le = le→leb 0 a (omega arith) }
+abs-from (suc n) (pos a) b = record { le = tt }
+abs-from zero (negsuc a) b = absurd (omega arith)
+abs-from (suc n) (negsuc a) b = record { le = le→leb a n (omega arith) }
 
-pub to-number : (n : ℕ) (z : ℤ) → natAbs z ≤ n → z ≤ℤ pos n
-to-number n (pos a) b = record { le = le→leb a n b }
-to-number n (negsuc a) b = record { le = tt }
+pub abs-to : (n : ℕ) (z : ℤ) → natAbs z ≤ n → z ≤ℤ pos n
+abs-to n (pos a) b = record { le = le→leb a n b }
+abs-to n (negsuc a) b = record { le = tt }
 
 -- an order test of two numbers, both k more
 pub lt-moved : (a b k : ℤ) → ltZ (a +ℤ k) (b +ℤ k) ≡ ltZ a b

@@ -8,11 +8,11 @@ ghost use lib.ListN.{length};
 ghost use Rattle.planes.specs.Planes.{plane-of};
 ghost use Rattle.work_buffer.specs.Buffer.{with-plane, zeroed, Workable};
 ghost use Rattle.working_plane.specs.Rounds.{working-plane};
-ghost use Rattle.working_plane.specs.Colours.{round-of, other, rewritten-list, Working};
+ghost use Rattle.working_plane.specs.Colours.{round-of, other, rewritten-list, KeptPlane};
 
 // So many rounds of a colour's working plane: the projection on green, and then the observed samples.
 fn run(colour: Colour, top: u16, rounds: u8, mosaic: &[u16], green: &[u16], work: &mut [i32])
-    requires { ⌜ Workable (colour .width) (colour .height) (now mosaic) (now green) (length (now work)) × (colour .row < 2) × (colour .column < 2) × Working (now work) (colour .width * colour .height) ⌝ }
+    requires { ⌜ Workable (colour .width) (colour .height) (now mosaic) (now green) (length (now work)) × (colour .row < 2) × (colour .column < 2) × KeptPlane (now work) (colour .width * colour .height) ⌝ }
     ensures { λ _. ⌜ now (work .exit) ≡ with-plane (colour .width) (colour .height) (working-plane rounds (round-of false colour top (now (mosaic .entry)) (now (green .entry))) (plane-of (pos 0) (colour .width) (now (work .entry)))) (now (work .entry)) ⌝ }
 {
     let given = working_plane::given_of(colour);

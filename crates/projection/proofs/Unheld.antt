@@ -8,7 +8,7 @@ use native.Mathlib.Omega.{arith}
 use lib.IntN.{ℤ, pos, natAbs, _-ℤ_, _*ℤ_, +ℤ-idr}
 use lib.Signed.{_≤ℤ_}
 use Rattle.integers.proofs.Products.{*ℤ-assoc}
-use Rattle.integers.proofs.Order.{from-opposite, to-number}
+use Rattle.integers.proofs.Order.{abs-from, abs-to}
 use Rattle.integers.proofs.Clamping.{clamp-inside}
 use Rattle.integers.proofs.Rounding.{rounded-exact}
 use Rattle.integers.proofs.Linear.{linear, x₀, number, _⊖_}
@@ -70,7 +70,7 @@ module _ (w h : ℕ) (wide : 0 < w) (high : 0 < h) (guide own : ℕ → ℕ → 
 -- what is within the limit has nothing outside
 excess-inside : (n : ℕ) (z : ℤ) → natAbs z ≤ n → excess (pos n) z ≡ pos 0
 unfolding excess
-excess-inside n z b = ap (λ x. z -ℤ x) (clamp-inside (from-opposite n z b) (to-number n z b)) ∙ linear (z ∷ []) (x₀ ⊖ x₀) (number (pos 0)) tt
+excess-inside n z b = ap (λ x. z -ℤ x) (clamp-inside (abs-from n z b) (abs-to n z b)) ∙ linear (z ∷ []) (x₀ ⊖ x₀) (number (pos 0)) tt
 
 -- nothing in any band
 abbrev pub no-bands : Bands ℤ

@@ -8,7 +8,7 @@ ghost use lib.ListN.{length};
 ghost use Rattle.planes.specs.Planes.{plane-of};
 ghost use Rattle.work_buffer.specs.Buffer.{with-plane, zeroed, Workable};
 ghost use Rattle.working_plane.specs.Rounds.{working-plane};
-ghost use Rattle.working_plane.specs.Colours.{round-of, other, rewritten-list, Working};
+ghost use Rattle.working_plane.specs.Colours.{round-of, other, rewritten-list, KeptPlane};
 
 // So many rounds of a colour's working plane: the projection on green, and then the observed samples. The rings and lines are scratch.
 fn run(
@@ -33,7 +33,7 @@ fn run(
     minus: &mut [i32],
     plus: &mut [i32],
 )
-    requires { ⌜ Workable (colour .width) (colour .height) (now mosaic) (now green) (length (now work)) × (colour .row < 2) × (colour .column < 2) × Working (now work) (colour .width * colour .height) ⌝ }
+    requires { ⌜ Workable (colour .width) (colour .height) (now mosaic) (now green) (length (now work)) × (colour .row < 2) × (colour .column < 2) × KeptPlane (now work) (colour .width * colour .height) ⌝ }
     requires { ⌜ (3 * colour .width ≤ length (now differences)) × (5 * colour .width ≤ length (now band)) × (7 * colour .width ≤ length (now apart1)) × (7 * colour .width ≤ length (now together1)) × (9 * colour .width ≤ length (now apart2)) × (9 * colour .width ≤ length (now together2)) ⌝ }
     requires { ⌜ (5 * colour .width ≤ length (now apart)) × (5 * colour .width ≤ length (now together)) × (5 * colour .width ≤ length (now rests)) ⌝ }
     requires { ⌜ (colour .width + 8 ≤ length (now low)) × (colour .width + 8 ≤ length (now high)) × (colour .width + 8 ≤ length (now parts)) × (colour .width + 8 ≤ length (now minus)) × (colour .width + 8 ≤ length (now plus)) ⌝ }

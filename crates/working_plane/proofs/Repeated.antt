@@ -10,7 +10,7 @@ use lib.Signed.{_≤ℤ_}
 use Rattle.integers.specs.Numbers.{rounded, clamp}
 use Rattle.integers.proofs.Tests.{cond-cases}
 use Rattle.integers.proofs.Bounds.{abs-neg, abs-sub, abs-minus}
-use Rattle.integers.proofs.Order.{≤ℤ-trans, ≤ℤ-add, abs-between, from-opposite, to-number}
+use Rattle.integers.proofs.Order.{≤ℤ-trans, ≤ℤ-add, abs-between, abs-from, abs-to}
 use Rattle.integers.proofs.Clamping.{clamp-from, clamp-to, clamp-inside, clamp-sample, clamp-after-wider}
 use Rattle.planes.specs.Planes.{Agree}
 use Rattle.filters.specs.Bank.{rescaled}
@@ -25,15 +25,15 @@ module _ (top : ℕ) where
   -- 0 and the ceiling lie in its range
   least-below : least-kept top ≤ℤ pos 0
   unfolding least-kept
-  least-below = from-opposite top (pos 0) (omega arith)
+  least-below = abs-from top (pos 0) (omega arith)
 
   most-above : pos top ≤ℤ most-kept top
   unfolding most-kept
-  most-above = to-number _ (pos top) (omega arith)
+  most-above = abs-to _ (pos top) (omega arith)
 
   -- so does a sample
   pub sample-kept : (x : ℕ) → x ≤ top → KeptTo top (pos x)
-  sample-kept x h = (≤ℤ-trans least-below (to-number x (pos 0) (omega arith)), ≤ℤ-trans (to-number top (pos x) h) most-above)
+  sample-kept x h = (≤ℤ-trans least-below (abs-to x (pos 0) (omega arith)), ≤ℤ-trans (abs-to top (pos x) h) most-above)
 
   -- and what is kept of a sum
   pub sum-kept : (times : ℕ) (s : ℤ) → KeptTo top (kept times top s)
@@ -41,12 +41,12 @@ module _ (top : ℕ) where
   sum-kept times s = (clamp-from (least-kept top) (most-kept top) order (rounded times s), clamp-to (least-kept top) (most-kept top) order (rounded times s))
     where
       order : least-kept top ≤ℤ most-kept top
-      order = ≤ℤ-trans least-below (≤ℤ-trans (to-number top (pos 0) (omega arith)) most-above)
+      order = ≤ℤ-trans least-below (≤ℤ-trans (abs-to top (pos 0) (omega arith)) most-above)
 
   -- clipped to 0..ceiling, that is the sum brought back there at once
   pub kept-clipped : (times : ℕ) (s : ℤ) → clamp (pos 0) (pos top) (kept times top s) ≡ rescaled times (pos 0) (pos top) s
   unfolding kept
-  kept-clipped times s = clamp-after-wider (pos 0) (pos top) (to-number top (pos 0) (omega arith)) least-below most-above (rounded times s)
+  kept-clipped times s = clamp-after-wider (pos 0) (pos top) (abs-to top (pos 0) (omega arith)) least-below most-above (rounded times s)
 
   -- how far it is from 0, and from a sample
   pub kept-far : {z : ℤ} → KeptTo top z → natAbs z ≤ 2 * top
@@ -63,7 +63,7 @@ module _ (top : ℕ) where
 pub kept-grows : {top most : ℕ} → top ≤ most → {z : ℤ} → KeptTo top z → KeptTo most z
 unfolding least-kept most-kept
 kept-grows {top} {most} few h =
-    (≤ℤ-trans (from-opposite most (negℤ (pos top)) (omega (arith, abs-neg (pos top), few))) (h .0), ≤ℤ-trans (h .1) (to-number (2 * most) (pos (2 * top)) (omega (arith, few))))
+    (≤ℤ-trans (abs-from most (negℤ (pos top)) (omega (arith, abs-neg (pos top), few))) (h .0), ≤ℤ-trans (h .1) (abs-to (2 * most) (pos (2 * top)) (omega (arith, few))))
 
 module _ (k : Round) where
   -- ---- a round
@@ -133,7 +133,7 @@ module _ (k : Round) where
 
   -- a sample is not clipped
   sample-stays : (x : ℕ) → x ≤ k .top → clamp (pos 0) (pos (k .top)) (pos x) ≡ pos x
-  sample-stays x few = clamp-inside (to-number x (pos 0) (omega arith)) (to-number (k .top) (pos x) few)
+  sample-stays x few = clamp-inside (abs-to x (pos 0) (omega arith)) (abs-to (k .top) (pos x) few)
 
   -- with no round no sample changes
   pub no-round : (plane : ℕ → ℕ → ℕ) (r c : ℕ) → plane r c ≤ k .top → rewritten 0 k plane r c ≡ plane r c

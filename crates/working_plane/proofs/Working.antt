@@ -23,7 +23,7 @@ use Rattle.rings.specs.declared.Given.{Given}
 use Rattle.work_buffer.specs.Buffer.{with-plane, zeroed, Workable}
 use Rattle.work_buffer.proofs.Buffer.{length-with-plane, with-plane-at, with-plane-holds, plane-with, with-plane-agree, with-plane-again, with-own-plane, zeroed-with-plane, loaded}
 use Rattle.working_plane.specs.Rounds.{Round, put-observed, round, working-plane, rewritten}
-use Rattle.working_plane.specs.Colours.{round-of, given, other, KeptTo, Working}
+use Rattle.working_plane.specs.Colours.{round-of, given, other, KeptTo, KeptPlane}
 use Rattle.working_plane.specs.declared.Colour.{Colour}
 use Rattle.working_plane.proofs.Repeated.{projected-on-green, round-projected, round-agrees, working-plane-agree, working-plane-hold, sample-kept, sum-kept, kept-far, kept-near, kept-grows}
 
@@ -42,7 +42,7 @@ guide-first green w h limit r c = ap (λ (n : ℕ). pos (getD green n 0)) place
     place = omega arith
 
 -- they may be projected
-pub projectable : (w h : ℕ) (mosaic green : List ℕ) (work : List ℤ) → Workable w h mosaic green (length work) → Working work (w * h) → ((k : ℕ) → getD green k 0 ≤ 65535) → (limit : ℤ) → Distance limit
+pub projectable : (w h : ℕ) (mosaic green : List ℕ) (work : List ℤ) → Workable w h mosaic green (length work) → KeptPlane work (w * h) → ((k : ℕ) → getD green k 0 ≤ 65535) → (limit : ℤ) → Distance limit
     → Projectable (given w h limit) work green
 unfolding own-plane guide-plane
 projectable w h mosaic green work u n sg limit distance = record {
@@ -59,7 +59,7 @@ projectable w h mosaic green work u n sg limit distance = record {
 
 -- a colour's, within the limit of a first level
 pub colour-projectable : (k : Colour) (mosaic green : List ℕ) (work : List ℤ) {g : Given} → g ≡ given (k .width) (k .height) (limits-of (k .threshold) .first) → k .threshold ≤ 65535
-    → Workable (k .width) (k .height) mosaic green (length work) → Working work (k .width * k .height) → ((i : ℕ) → getD green i 0 ≤ 65535) → Projectable g work green
+    → Workable (k .width) (k .height) mosaic green (length work) → KeptPlane work (k .width * k .height) → ((i : ℕ) → getD green i 0 ≤ 65535) → Projectable g work green
 colour-projectable k mosaic green work e few u n sg =
     subst (λ (x : Given). Projectable x work green) (sym e)
     (projectable (k .width) (k .height) mosaic green work u n sg _ (unfold limits-of in (record { sign = tt; small = omega (arith, few) })))
@@ -124,8 +124,8 @@ module _ (two : Bool) (k : Colour) (top : ℕ) (mosaic green : List ℕ) (work :
       held r c hr hc = ap (λ (l : List ℤ). plane-of (pos 0) w l r c) p ∙ plane-with w h work room (After n) r c hr hc
 
   -- its numbers lie in their range all the while
-  pub after-working : (n : ℕ) {l : List ℤ} → l ≡ with-plane w h (After n) work → Working work (w * h) → top ≤ 65535 → ((i : ℕ) → getD mosaic i 0 ≤ 65535) → Working l (w * h)
-  after-working n p u few sm = record {
+  pub after-kept : (n : ℕ) {l : List ℤ} → l ≡ with-plane w h (After n) work → KeptPlane work (w * h) → top ≤ 65535 → ((i : ℕ) → getD mosaic i 0 ≤ 65535) → KeptPlane l (w * h)
+  after-kept n p u few sm = record {
     inside = omega (arith, ap length p, length-with-plane w h work room (After n), room);
     each = with-plane-holds w h work room (After n) p (KeptTo 65535) (working-plane-hold K (KeptTo 65535) Own (λ times s. kept-grows few (sum-kept top times s)) (λ r c hr hc. sample-kept 65535 _ (observed r c)) first n);
   }
@@ -149,8 +149,8 @@ module _ (two : Bool) (k : Colour) (top : ℕ) (mosaic green plane : List ℕ) (
   first-long : length first ≡ length work
   first-long = ap length first-laid ∙ length-with-plane (k .width) (k .height) work room Samples
 
-  pub first-working : ((i : ℕ) → getD plane i 0 ≤ 65535) → Working first (k .width * k .height)
-  first-working sm = record {
+  pub first-kept : ((i : ℕ) → getD plane i 0 ≤ 65535) → KeptPlane first (k .width * k .height)
+  first-kept sm = record {
     inside = omega (arith, room, first-long);
     each = with-plane-holds (k .width) (k .height) work room Samples first-laid (KeptTo 65535) (λ r c hr hc. sample-kept 65535 _ (small r c));
   }

@@ -39,11 +39,11 @@ abbrev pub rewritten-list : Bool → Colour → ℕ → ℕ → List ℕ → Lis
 rewritten-list two k top n mosaic green plane = listing (k .width) (k .height) (rewritten n (round-of two k top mosaic green) (plane-of 0 (k .width) plane))
 
 -- ---- what the code asks of a working plane
--- a number that one of samples up to top may hold
+-- a number that one of samples up to top keeps
 abbrev pub KeptTo : ℕ → ℤ → Type 0
 KeptTo top z = (least-kept top ≤ℤ z) × (z ≤ℤ most-kept top)
 
 -- n numbers stand first in the list, each such a number for samples of 16 bits
-pub record Working (l : List ℤ) (n : ℕ) : Type 0 where
+pub record KeptPlane (l : List ℤ) (n : ℕ) : Type 0 where
   pub inside : n ≤ length l
   pub each : (k : ℕ) → k < n → KeptTo 65535 (value l k)

@@ -21,14 +21,14 @@ pub record Round : Type 0 where
   pub mosaic : ℕ → ℕ → ℕ
   pub green : ℕ → ℕ → ℕ
 
--- "Between rounds a working plane keeps" −ceiling..2·ceiling,
+-- "Between rounds a working plane now keeps −4,095..8,190": from −ceiling to 2·ceiling
 unfoldable pub least-kept : ℕ → ℤ
 least-kept top = negℤ (pos top)
 
 unfoldable pub most-kept : ℕ → ℤ
 most-kept top = pos (2 * top)
 
--- and of a joined sum so much as is brought back, from so many times a sample, into that range
+-- what it keeps of a joined sum: brought back, from so many times a sample, into that range
 unfoldable pub kept : ℕ → ℕ → ℤ → ℤ
 kept times top s = rescaled times (least-kept top) (most-kept top) s
 

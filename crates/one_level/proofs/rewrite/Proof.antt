@@ -6,7 +6,7 @@ use native.Mathlib.Omega.{arith}
 use lib.ListN.{getD, length}
 use denote.Ref.{now}
 use borrow.Author.Needs.{needs}
-use Rattle.working_plane.proofs.Working.{first-working, first-workable, last-room, scratched, unloaded}
+use Rattle.working_plane.proofs.Working.{first-kept, first-workable, last-room, scratched, unloaded}
 use Rattle.one_level.proofs.rewrite.Statement.{statement}
 use Rattle.one_level.proofs.rewrite.Tie as tie
 
@@ -28,7 +28,7 @@ run-requires c κs =
       first-workable false (a .colour) (a .top) (now (a .mosaic)) (now (a .green)) (now (a .plane)) (now (a .work)) (room s) (s .pre .3) (l .load .ensures) (s .pre .0),
       s .pre .1,
       s .pre .2,
-      first-working false (a .colour) (a .top) (now (a .mosaic)) (now (a .green)) (now (a .plane)) (now (a .work)) (room s) (s .pre .3) (l .load .ensures) (plane-small l),
+      first-kept false (a .colour) (a .top) (now (a .mosaic)) (now (a .green)) (now (a .plane)) (now (a .work)) (room s) (s .pre .3) (l .load .ensures) (plane-small l),
     )
 
 unload-requires : tie.Need-unload-requires

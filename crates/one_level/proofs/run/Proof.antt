@@ -15,8 +15,8 @@ use Rattle.planes.specs.Planes.{plane-of}
 use Rattle.filters.proofs.Quotients.{ends}
 use Rattle.work_buffer.specs.Buffer.{with-plane, Workable}
 use Rattle.working_plane.specs.Rounds.{least-kept, most-kept, working-plane}
-use Rattle.working_plane.specs.Colours.{round-of, Working}
-use Rattle.working_plane.proofs.Working.{colour-projectable, none-laid, more-laid, after-working}
+use Rattle.working_plane.specs.Colours.{round-of, KeptPlane}
+use Rattle.working_plane.proofs.Working.{colour-projectable, none-laid, more-laid, after-kept}
 use Rattle.one_level.proofs.Projected.{one-laid}
 use Rattle.one_level.proofs.run.Statement.{statement}
 use Rattle.one_level.proofs.run.Tie as tie
@@ -64,11 +64,11 @@ loop-holds c =
 workable : (l : tie.At-loop Inv-loop μ-loop) → let a = start l .args in Workable (a .colour .width) (a .colour .height) (now (a .mosaic)) (now (a .green)) (length (l .loop .work))
 workable l = let a = start l .args in subst (Workable (a .colour .width) (a .colour .height) (now (a .mosaic)) (now (a .green))) (sym (l .loop .inv .2)) (start l .pre .0)
 
-working : (l : tie.At-loop Inv-loop μ-loop) → let a = start l .args in Working (l .loop .work) (a .colour .width * a .colour .height)
-working l =
+plane-kept : (l : tie.At-loop Inv-loop μ-loop) → let a = start l .args in KeptPlane (l .loop .work) (a .colour .width * a .colour .height)
+plane-kept l =
     let s = start l in
     let a = s .args in
-    after-working false (a .colour) (a .top) (now (a .mosaic)) (now (a .green)) (now (a .work)) (room s) (l .loop .n) (l .loop .inv .1) (s .pre .3) (omega arith) (λ k. omega (arith, given-at l .before .before .shared-slice-known .given k))
+    after-kept false (a .colour) (a .top) (now (a .mosaic)) (now (a .green)) (now (a .work)) (room s) (l .loop .n) (l .loop .inv .1) (s .pre .3) (omega arith) (λ k. omega (arith, given-at l .before .before .shared-slice-known .given k))
 
 -- the ends of what is kept, as the machine reads them
 ends-are : (l : tie.At-loop Inv-loop μ-loop)
@@ -86,7 +86,7 @@ project-requires c κs =
     let l = c .before .before in
     let a = start l .args in
     let e = ends-small l in (
-      colour-projectable (a .colour) (now (a .mosaic)) (now (a .green)) (l .loop .work) (given-at l .given-of .ensures) (omega (arith, start l .good .0)) (workable l) (working l) (λ k. omega (arith, given-at l .before .shared-slice-known2 .given k)),
+      colour-projectable (a .colour) (now (a .mosaic)) (now (a .green)) (l .loop .work) (given-at l .given-of .ensures) (omega (arith, start l .good .0)) (workable l) (plane-kept l) (λ k. omega (arith, given-at l .before .shared-slice-known2 .given k)),
       ends (search bounds depth 4) (search bounds depth 4) tt tt,
     )
 

@@ -9,7 +9,7 @@ use lib.Dec.{T, leb, leb→le}
 use lib.ListN.{getD, length}
 use denote.Ref.{now}
 use borrow.Author.Needs.{needs}
-use Rattle.working_plane.proofs.Working.{first-working, first-workable, last-room, last-long, scratched, unloaded}
+use Rattle.working_plane.proofs.Working.{first-kept, first-workable, last-room, last-long, scratched, unloaded}
 use Rattle.two_levels.proofs.rewrite.Statement.{statement}
 use Rattle.two_levels.proofs.rewrite.Tie as tie
 
@@ -85,7 +85,7 @@ run-requires c κs =
     let s = start l in
     let a = s .args in
     let w = s .pre .0 .sizes .width-to in (
-      (first-workable true (a .colour) (a .top) (now (a .mosaic)) (now (a .green)) (now (a .plane)) (now (a .work)) (room s) (s .pre .3) (l .load .ensures) (s .pre .0), s .pre .1, s .pre .2, first-working true (a .colour) (a .top) (now (a .mosaic)) (now (a .green)) (now (a .plane)) (now (a .work)) (room s) (s .pre .3) (l .load .ensures) (plane-small (l .before .before .before))),
+      (first-workable true (a .colour) (a .top) (now (a .mosaic)) (now (a .green)) (now (a .plane)) (now (a .work)) (room s) (s .pre .3) (l .load .ensures) (s .pre .0), s .pre .1, s .pre .2, first-kept true (a .colour) (a .top) (now (a .mosaic)) (now (a .green)) (now (a .plane)) (now (a .work)) (room s) (s .pre .3) (l .load .ensures) (plane-small (l .before .before .before))),
       (
         (rows _ _ tt w, rows _ _ tt w, rows _ _ tt w, rows _ _ tt w, rows _ _ tt w, rows _ _ tt w),
         ((rows _ _ tt w, rows _ _ tt w, rows _ _ tt w), (line _ tt w, line _ tt w, line _ tt w, line _ tt w, line _ tt w)),

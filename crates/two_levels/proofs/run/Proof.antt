@@ -20,8 +20,8 @@ use Rattle.projection.specs.Projection.{limits-of}
 use Rattle.rings.specs.declared.Given.{Given}
 use Rattle.work_buffer.specs.Buffer.{with-plane, Workable}
 use Rattle.working_plane.specs.Rounds.{least-kept, most-kept, working-plane}
-use Rattle.working_plane.specs.Colours.{round-of, Working}
-use Rattle.working_plane.proofs.Working.{colour-projectable, none-laid, more-laid, after-working}
+use Rattle.working_plane.specs.Colours.{round-of, KeptPlane}
+use Rattle.working_plane.proofs.Working.{colour-projectable, none-laid, more-laid, after-kept}
 use Rattle.two_levels.proofs.Projected.{two-laid}
 use Rattle.two_levels.proofs.run.Statement.{statement}
 use Rattle.two_levels.proofs.run.Tie as tie
@@ -115,11 +115,11 @@ kept {n} e = subst (λ (x : ℕ). n ≤ x) (sym e)
 workable : (l : tie.At-loop Inv-loop μ-loop) → let a = start l .args in Workable (a .colour .width) (a .colour .height) (now (a .mosaic)) (now (a .green)) (length (l .loop .work))
 workable l = let a = start l .args in subst (Workable (a .colour .width) (a .colour .height) (now (a .mosaic)) (now (a .green))) (sym (l .loop .inv .2)) (start l .pre .0 .0)
 
-working : (l : tie.At-loop Inv-loop μ-loop) → let a = start l .args in Working (l .loop .work) (a .colour .width * a .colour .height)
-working l =
+plane-kept : (l : tie.At-loop Inv-loop μ-loop) → let a = start l .args in KeptPlane (l .loop .work) (a .colour .width * a .colour .height)
+plane-kept l =
     let s = start l in
     let a = s .args in
-    after-working true (a .colour) (a .top) (now (a .mosaic)) (now (a .green)) (now (a .work)) (room s) (l .loop .n) (l .loop .inv .1) (s .pre .0 .3) (top-small s) (mosaic-small (widened-at l .before .before .before))
+    after-kept true (a .colour) (a .top) (now (a .mosaic)) (now (a .green)) (now (a .work)) (room s) (l .loop .n) (l .loop .inv .1) (s .pre .0 .3) (top-small s) (mosaic-small (widened-at l .before .before .before))
 
 -- where the loop starts, from the call of the sweep
 abbrev turn : tie.After-project-rows-arg15 Inv-loop μ-loop → tie.At-loop Inv-loop μ-loop
@@ -166,7 +166,7 @@ project-rows-requires c κs =
     let i = l .loop .inv in
     let r = s .pre .1 in (
       (
-        colour-projectable (a .colour) (now (a .mosaic)) (now (a .green)) (l .loop .work) (widened-at l .before .given-of .ensures) (threshold-small s) (workable l) (working l) (green-small (widened-at l .before .before)),
+        colour-projectable (a .colour) (now (a .mosaic)) (now (a .green)) (l .loop .work) (widened-at l .before .given-of .ensures) (threshold-small s) (workable l) (plane-kept l) (green-small (widened-at l .before .before)),
         times-distance _ tt (widened-at l),
       ),
       (
