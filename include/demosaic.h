@@ -264,11 +264,11 @@ uint32_t demosaic_update(size_t width, size_t height, uint32_t layout, const uin
 
 /*
  * Runs the rounds on three planes: red and blue are rewritten in place, green stays. Each round splits a colour, holds
- * its details within 16 * threshold of green's, joins and brings back, and then puts the observed samples in. With two
- * levels band 1 is split again, with the taps two places apart, its details are held within 256 * threshold of green's,
- * and it is joined before the rest; only the whole is brought back. Between rounds a plane keeps -4,095..8,190, in the
- * work buffer; after the last it is clipped to 0..4,095. With 0 rounds no plane changes. Asks 1, 2, 3, 4, 5, 6 (the
- * mosaic), 7 (each plane), 8, 18 (two levels), 9, 10 (each plane).
+ * its details within 16 * threshold of green's, joins, brings back to -4,095..8,190, and then puts the observed samples
+ * in; after the last round the planes are clipped to 0..4,095. With two levels band 1 is split again, with the taps two
+ * places apart, its details are held within 256 * threshold of green's, and it is joined before the rest; only the whole
+ * is brought back. With 0 rounds no plane changes. Asks 1, 2, 3, 4, 5, 6 (the mosaic), 7 (each plane), 8, 18 (two
+ * levels), 9, 10 (each plane).
  */
 uint32_t demosaic_rounds(size_t width, size_t height, uint32_t layout, uint32_t rounds, uint32_t threshold,
                          const uint16_t *mosaic, size_t mosaic_len, uint16_t *red, size_t red_len,
