@@ -1,4 +1,6 @@
 // Document 01's filter bank: split, join, and bringing a sum back.
+#![tactic(auto)]
+
 ghost use Rattle.std.specs.Prelude.{◌≡◌, map, cond, ◌+◌, ◌*◌, ◌≤◌, ◌<◌, leb, nat_abs, length};
 ghost use Rattle.integers.specs.Numbers.{rounded};
 ghost use Rattle.integers.specs.Lists.{overwrite};

@@ -208,6 +208,7 @@ module _ {A : Type 0} (n : ℕ) (some : 0 < n) (Y : ℤ → A) (even : (i : ℤ)
 
 -- ---- the mirror: reflecting n − 1 − i
 pub reflect_mirror : (n : ℕ) → 0 < n → (i : ℤ) → reflect n (pos (n - 1) -ℤ i) ≡ (n - 1) - reflect n i
+reflect_mirror zero some i = elim some [ ]
 reflect_mirror (suc zero) some i = reflect_one (pos (1 - 1) -ℤ i) ∙ sym (ap (λ (x : ℕ). 1 - 1 - x) (reflect_one i))
 reflect_mirror (suc (suc n)) some i =
     sym (reflect_fixes N some Y even again i) ∙ ap (reflect N) (minus_pos (N - 1) (reflect N i) inside) ∙ reflect_inside N (N - 1 - reflect N i) (omega (arith, reflect_lt N some i))

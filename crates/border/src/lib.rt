@@ -1,4 +1,6 @@
 // Inner: the border of a line, in code.
+#![tactic(auto)]
+
 ghost use Rattle.std.specs.Prelude.{◌≡◌, ◌≤◌, ◌<◌, ◌^◌, pos, ◌-ℤ◌};
 ghost use Rattle.border.specs.Border.{reflect};
 

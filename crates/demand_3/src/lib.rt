@@ -1,4 +1,6 @@
 // Demand 3, run: a frame finished as given, and finished as it stands after a list of turning calls.
+#![tactic(auto)]
+
 ghost use Rattle.std.specs.Prelude.{◌≡◌};
 ghost use Rattle.planes.specs.Planes.{frame};
 ghost use Rattle.questions.specs.Lent.{lent};
@@ -11,7 +13,7 @@ use questions::{Answer, Settings};
 use turns::{Turn, TurnedFrame};
 
 // Where the frame stands: its width, height and layout, and whether the second mosaic holds its samples.
-#[derive(Drop)]
+#[derive(Clone, Copy)]
 struct Standing {
     width: usize,
     height: usize,
@@ -20,7 +22,7 @@ struct Standing {
 }
 
 // The numbers of both finishings, 0 for accepted.
-#[derive(Drop)]
+#[derive(Clone, Copy)]
 pub struct Numbers {
     pub given: u32,
     pub turned: u32,

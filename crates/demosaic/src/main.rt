@@ -1,4 +1,6 @@
 // Document 01's program: it reads a packet from standard input and prints its three finished planes, or the number of its refusal.
+#![tactic(auto)]
+
 use libc::{STDIN_FILENO, STDOUT_FILENO};
 
 // Of a longer input one byte more than is allowed is read, so that it is refused. A read that fails ends the input.

@@ -1,4 +1,6 @@
 // What C sees of the engine: thin calls, declared in include/demosaic.h. A slice is a pointer and a length there.
+#![tactic(auto)]
+
 ghost use Rattle.std.specs.Prelude.{◌≡◌, min};
 ghost use Rattle.planes.specs.Planes.{frame, planes};
 ghost use Rattle.questions.specs.Settings.{ceiling, settings};

@@ -1,5 +1,7 @@
 // Inner: the sums of the projection, along lines, with taps d places apart. No loop over a line reflects or branches, so that each is a loop
 // over vectors, with d as a plain number at run time too.
+#![tactic(auto)]
+
 ghost use Rattle.std.specs.Prelude.{◌≡◌, ◌+◌, ◌*◌, ◌≤◌, ◌<◌, nat_abs, pos, ◌+ℤ◌, ◌-ℤ◌, length};
 ghost use Rattle.integers.specs.Lists.{overwrite};
 ghost use Rattle.planes.specs.Lists.{InRow, value};

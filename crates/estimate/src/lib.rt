@@ -1,4 +1,6 @@
 // Document 01's first estimates: a mosaic into three planes.
+#![tactic(auto)]
+
 ghost use Rattle.std.specs.Prelude.{◌≡◌, true, ◌+◌, ◌*◌, ◌≤◌, ◌<◌, length};
 ghost use Rattle.std.specs.Bool.{beq};
 ghost use Rattle.integers.specs.Lists.{overwrite};

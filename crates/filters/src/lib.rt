@@ -1,4 +1,6 @@
 // Inner: the filters of document 01's bank, one number at a time. LLVM inlines each, so that the loops over them are uniform.
+#![tactic(auto)]
+
 ghost use Rattle.std.specs.Prelude.{◌≡◌, ◌≤◌, pos, nat_abs, ◌-ℤ◌, ◌*ℤ◌};
 ghost use Rattle.integers.specs.Numbers.{clamp};
 ghost use Rattle.filters.specs.Bank.{Small, Ends, low_split, high_split, low_join, high_join, weighted, rescaled};

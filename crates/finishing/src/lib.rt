@@ -1,4 +1,6 @@
 // Document 01's finishing call, without its tally and with it.
+#![tactic(auto)]
+
 ghost use Rattle.std.specs.Prelude.{◌≡◌};
 ghost use Rattle.planes.specs.Planes.{frame};
 ghost use Rattle.questions.specs.Questions.{ask};
@@ -10,7 +12,7 @@ use questions::{Answer, Settings};
 use tally::Tally;
 
 // What the finishing call answers: the next tally, and a refusal's number before it.
-#[derive(Drop)]
+#[derive(Clone, Copy)]
 pub enum FinishAnswer {
     Accepted(Tally),
     Refused(u32, Tally),

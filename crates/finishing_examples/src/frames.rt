@@ -2,7 +2,7 @@
 ghost use Rattle.std.specs.Prelude.{◌≤◌};
 
 // The settings, one of the samples, and the lengths of both mosaics and of the buffers that each finishing is lent.
-#[derive(Drop)]
+#[derive(Clone, Copy)]
 pub(crate) struct Example {
     pub(crate) width: usize,
     pub(crate) height: usize,

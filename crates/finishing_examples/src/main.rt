@@ -1,5 +1,7 @@
 // Demand 3 on small frames, printed. What this program writes is held against the file stdout, which the reference program in
 // checks/ makes from document 01 alone.
+#![tactic(auto)]
+
 mod frames;
 mod print;
 mod refused;

@@ -1,5 +1,7 @@
 // Inner: the bank's filters along lines. No loop over a line reflects, so that each is a loop over vectors: the border stands in
 // padded lines.
+#![tactic(auto)]
+
 ghost use Rattle.std.specs.Prelude.{◌≡◌, ℕ, ◌+◌, ◌≤◌, ◌<◌, length, ◌+ℤ◌};
 ghost use Rattle.integers.specs.Lists.{overwrite};
 ghost use Rattle.planes.specs.Lists.{value};
@@ -34,7 +36,7 @@ pub fn split_line(
 }
 
 // Where five lines begin.
-#[derive(Drop)]
+#[derive(Clone, Copy)]
 pub struct Five {
     pub a: usize,
     pub b: usize,

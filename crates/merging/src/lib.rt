@@ -1,5 +1,7 @@
 // Inner: the second level's joined parts merged into the first level's, along lines, and a line settled. A joined sum of the second level does
 // not fit 32 bits: it is carried as whole parts by 1,024 and rests. No loop over a line reflects or branches, so that each is a loop over vectors.
+#![tactic(auto)]
+
 ghost use Rattle.std.specs.Prelude.{◌≡◌, ◌+◌, ◌*◌, ◌≤◌, ◌<◌, ◌+ℤ◌, ◌-ℤ◌, length};
 ghost use Rattle.integers.specs.Lists.{overwrite};
 ghost use Rattle.planes.specs.Lists.{value};

@@ -1,4 +1,6 @@
 // Inner: the 5 by 5 neighbourhood of a place, by value, and document 01's first estimates of that place from it.
+#![tactic(auto)]
+
 ghost use Rattle.std.specs.Prelude.{◌≡◌, true, cond, [], ◌+◌, ◌≤◌, ◌<◌, pos, nat_abs, ◌-ℤ◌, ◌*ℤ◌, length, get_or};
 ghost use Rattle.std.specs.Int.Signed.{lt_z};
 ghost use Rattle.integers.specs.Numbers.{rounded, clipped};

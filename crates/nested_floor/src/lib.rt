@@ -1,6 +1,8 @@
 // Inner: numbers taken apart by 1,024, and a sum of two levels brought back in 32 bits. A joined sum of the second level does not fit 32 bits, so it
 // is kept as its whole part by 1,024 and the rest: the filters are linear, so what they make of a number is 1,024 times what they make of the whole
 // part, and what they make of the rest.
+#![tactic(auto)]
+
 ghost use Rattle.std.specs.Prelude.{◌≡◌, ◌≤◌, nat_abs};
 ghost use Rattle.nested_floor.specs.NestedFloor.{whole, rest, settled_two};
 

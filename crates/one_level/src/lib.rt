@@ -1,4 +1,6 @@
 // Inner: the rounds of red and of blue at one level of the bank.
+#![tactic(auto)]
+
 ghost use Rattle.std.specs.Prelude.{◌≡◌, false, ◌*◌, ◌<◌, pos, length};
 ghost use Rattle.planes.specs.Planes.{plane_of};
 ghost use Rattle.work_buffer.specs.Buffer.{with_plane, zeroed, Workable};

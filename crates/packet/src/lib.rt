@@ -1,4 +1,6 @@
 // Document 01's packet: the reader, the writer and the repeat call.
+#![tactic(auto)]
+
 ghost use Rattle.std.specs.Prelude.{◌≡◌, ◌+◌, ◌*◌, ◌≤◌, ◌<◌, [], ◌∷◌, length};
 ghost use Rattle.std.proofs.lemmas.List.Edits.{sets};
 ghost use Rattle.questions.specs.Questions.{ask};
@@ -9,7 +11,7 @@ ghost use Rattle.packet.specs.Calls.{store_questions, ceiling_question, read_que
 use questions::Settings;
 
 // Document 01's fields: what a packet's trailer says of its frame.
-#[derive(Drop)]
+#[derive(Clone, Copy)]
 pub struct Fields {
     pub width: usize,
     pub height: usize,
@@ -18,21 +20,21 @@ pub struct Fields {
 }
 
 // What the reader answers.
-#[derive(Drop)]
+#[derive(Clone, Copy)]
 pub enum ReadPacket {
     Sound(Fields),
     Refused(u32),
 }
 
 // What the writer answers: how many bytes it wrote.
-#[derive(Drop)]
+#[derive(Clone, Copy)]
 pub enum WrittenPacket {
     Bytes(usize),
     Refused(u32),
 }
 
 // What the repeat call answers.
-#[derive(Drop)]
+#[derive(Clone, Copy)]
 pub enum Repeat {
     Yes,
     No,

@@ -1,5 +1,7 @@
 // The packet's calls on small stores, printed. What this program writes is held against the file stdout, which the reference
 // program in checks/ makes from document 01 alone.
+#![tactic(auto)]
+
 mod mosaics;
 mod print;
 mod reading;

@@ -1,4 +1,6 @@
 // Inner: document 01's program on bytes, for `main` alone: the number of its refusal, and its text, which a refusal has too.
+#![tactic(auto)]
+
 ghost use Rattle.std.specs.Prelude.{◌≡◌, ◌*◌};
 ghost use Rattle.questions.specs.Questions.{ask};
 ghost use Rattle.questions.specs.Lent.{lent};

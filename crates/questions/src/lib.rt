@@ -1,5 +1,7 @@
 // Inner: a frame's settings, what a call answers, and the checks that calls share. Each check answers the number of the first question
 // answered no, or 0.
+#![tactic(auto)]
+
 ghost use Rattle.std.specs.Prelude.{◌≡◌, max, ◌≤◌};
 ghost use Rattle.planes.specs.Layout.{two_levels};
 ghost use Rattle.planes.specs.Planes.{frame};
@@ -9,7 +11,7 @@ ghost use Rattle.questions.specs.Lent.{rooms, wide_enough, buffer_questions, len
 ghost use Rattle.questions.specs.Calls.{number_of_answer};
 
 // A frame's settings. Its width, height and layout are not among them: they turn, and settings do not.
-#[derive(Drop)]
+#[derive(Clone, Copy)]
 pub struct Settings {
     pub rounds: u8,
     pub threshold: u16,
@@ -32,7 +34,7 @@ impl Settings {
 }
 
 // What a call answers that hands back nothing beside.
-#[derive(Drop)]
+#[derive(Clone, Copy)]
 pub enum Answer {
     Accepted,
     Refused(u32),

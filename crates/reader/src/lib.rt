@@ -1,4 +1,6 @@
 // Document 01's reader: of a store whose end is a packet's end, the number, the fields and the samples in one answer.
+#![tactic(auto)]
+
 ghost use Rattle.std.specs.Prelude.{◌≡◌};
 ghost use Rattle.questions.specs.Questions.{ask};
 ghost use Rattle.packet.specs.Calls.{read_questions};
@@ -9,7 +11,7 @@ use trailer::Fields;
 
 // What the reader answers: the refusal number, 0 for a sound packet; the packet's fields; and the part of the store that holds its samples, two bytes
 // each. Where the packet is refused, every field is 0 and the part is empty.
-#[derive(Drop)]
+#[derive(Clone, Copy)]
 pub struct Packet<'a> {
     pub number: u32,
     pub fields: Fields,

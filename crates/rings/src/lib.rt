@@ -1,5 +1,7 @@
 // Inner: the rows of a projection that are needed again, in rings, and the stages that fill them. A sweep goes down the rows by steps; at each
 // step a stage makes the row that it has reached, if there is one, from rows that are still in the cache.
+#![tactic(auto)]
+
 ghost use Rattle.std.specs.Prelude.{◌≡◌, ◌+◌, ◌*◌, ◌≤◌, ◌<◌, pos, ◌+ℤ◌, ◌-ℤ◌, length};
 ghost use Rattle.integers.specs.Lists.{overwrite};
 ghost use Rattle.planes.specs.Lists.{InRow};
@@ -11,7 +13,7 @@ ghost use Rattle.rings.specs.Rows.{slot, slot_of, row_at, guide_at, five_slots, 
 ghost use Rattle.rings.specs.Stages.{reached, Working, ring_row_laid, AsLong};
 
 // What a projection is given, beside the two lists.
-#[derive(Drop)]
+#[derive(Clone, Copy)]
 pub struct Given {
     // the plane's first place; its rows follow each other
     pub at: usize,
@@ -27,7 +29,7 @@ pub struct Given {
 }
 
 // A level of the bank, as a sweep goes through it.
-#[derive(Drop)]
+#[derive(Clone, Copy)]
 pub struct Level {
     // how far apart the taps stand
     pub spacing: usize,

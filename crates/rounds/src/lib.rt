@@ -1,4 +1,6 @@
 // Document 01's rounds, at one level of the bank or, as document 02 has them, at two.
+#![tactic(auto)]
+
 ghost use Rattle.std.specs.Prelude.{◌≡◌, true, ◌*◌, ◌≤◌, length};
 ghost use Rattle.planes.specs.Layout.{two_levels};
 ghost use Rattle.planes.specs.Planes.{frame, planes};

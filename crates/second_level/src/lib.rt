@@ -1,4 +1,6 @@
 // Inner: the stages that a sweep of two levels has beside those of `rings`: band 1, both levels' joined parts merged, and a row settled.
+#![tactic(auto)]
+
 ghost use Rattle.std.specs.Prelude.{◌≡◌, ◌+◌, ◌*◌, ◌≤◌, length};
 ghost use Rattle.planes.specs.Planes.{Sizes};
 ghost use Rattle.lines.specs.Lines.{Run, Runs};

@@ -6,7 +6,7 @@ use native.Mathlib.Nat.{mul-one, zero-mul, mul-pos, zero-lt-suc, add-zero, sub_s
 use native.Mathlib.Omega.{arith}
 use lib.IntN.{pos}
 use borrow.Author.Tests.{le-ltb}
-use lib.Ieee.{Float, fin, binary64, up, down, round, sum, neg, add, sub, mul, of_int}
+use lib.Ieee.{nan, inf, Float, fin, binary64, up, down, round, sum, neg, add, sub, mul, of_int}
 use lib.Ieee.Fits.{down_pos}
 use lib.Ieee.Exact.{HasValue}
 use lib.Ieee.Back.{round_whole}
@@ -28,6 +28,8 @@ less_itself false a d p = rw (le-ltb a a (omega arith), sub_self) (round_zero d 
 
 difference : (x : Float) (n : ℕ) → HasValue x false n 1 → sub binary64 x x ≡ plus_zero
 unfolding sub add neg
+difference nan n v = elim v [ ]
+difference (inf _) n v = elim v [ ]
 difference (fin s m e) n v = less_itself s (m * up e * down e) (down e * down e) (mul-pos (down_pos e) (down_pos e))
 
 -- ---- an eighth of +0 is +0
@@ -38,6 +40,8 @@ product = refl
 -- ---- x + 0 is x again: its value is a whole number, of which it is the float
 with_zero : (x : Float) (n : ℕ) → HasValue x false n 1 → add binary64 x plus_zero ≡ round binary64 false n 1
 unfolding add
+with_zero nan n v = elim v [ ]
+with_zero (inf _) n v = elim v [ ]
 with_zero (fin true m e) n v = absurd (let z : ◌≡◌ {A = ℕ} 1 0 = ap (λ (b : Bool). cond b 1 0) v.0 in omega arith)
 with_zero (fin false m e) n v =
     round_same binary64 false (m * up e * 1 + 0 * 1 * down e) (down e * 1) n 1 (mul-pos (down_pos e) (zero-lt-suc 0)) (zero-lt-suc 0) same

@@ -1,4 +1,6 @@
 // Inner: one colour of a spot, smoothed from frame to frame.
+#![tactic(auto)]
+
 ghost use Rattle.std.specs.Prelude.{◌≡◌};
 ghost use Rattle.smoothing.specs.Smoothing.{smooth};
 

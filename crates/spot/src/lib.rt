@@ -1,4 +1,6 @@
 // Document 02's spot: the sums of red, green and blue over a window of a finished frame, smoothed from frame to frame.
+#![tactic(auto)]
+
 ghost use Rattle.std.specs.Prelude.{◌≡◌, length};
 ghost use Rattle.planes.specs.Planes.{planes};
 ghost use Rattle.questions.specs.Questions.{ask};
@@ -6,7 +8,7 @@ ghost use Rattle.spot.specs.Spot.{start, spot_of, smooth_spot, lit_spot};
 ghost use Rattle.spot.specs.Calls.{spot_questions, accepted, spot_given, PlanesRoom, PlaneSums, SpotResult};
 
 // A spot: three sums as floats, as they stand or smoothed.
-#[derive(Drop)]
+#[derive(Clone, Copy)]
 pub struct Spot {
     pub red: f64,
     pub green: f64,
@@ -14,7 +16,7 @@ pub struct Spot {
 }
 
 // A frame's sums over the window.
-#[derive(Drop)]
+#[derive(Clone, Copy)]
 pub struct Sums {
     pub red: u32,
     pub green: u32,
@@ -22,13 +24,13 @@ pub struct Sums {
 }
 
 // What is kept between frames: the spot, and whether a lit frame has come.
-#[derive(Drop)]
+#[derive(Clone, Copy)]
 pub struct Kept {
     pub spot: Spot,
     pub lit: bool,
 }
 
-#[derive(Drop)]
+#[derive(Clone, Copy)]
 pub enum Reading {
     // No lit frame so far, this one included.
     Starting,
@@ -39,7 +41,7 @@ pub enum Reading {
 }
 
 // What the call answers: the reading, or a refusal's number; and what is kept now.
-#[derive(Drop)]
+#[derive(Clone, Copy)]
 pub enum SpotAnswer {
     Accepted(Reading, Kept),
     Refused(u32, Kept),

@@ -1,5 +1,7 @@
 // The spot read from frames of 40 by 36, one after another, printed. What this program writes is held against the file stdout, which the reference
 // program in checks/ makes from documents 01 and 02 alone.
+#![tactic(auto)]
+
 mod frames;
 mod print;
 

@@ -1,5 +1,7 @@
 // Inner: the projection of a plane on the details of a guide, in one sweep over the rows. Each of three stages lags behind the one before it, so
 // that every row that it needs is still in a ring; the plane is read and written once.
+#![tactic(auto)]
+
 ghost use Rattle.std.specs.Prelude.{◌≡◌, ◌+◌, ◌*◌, ◌≤◌, length};
 ghost use Rattle.planes.specs.Planes.{Sizes};
 ghost use Rattle.filters.specs.Bank.{Ends};

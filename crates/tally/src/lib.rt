@@ -1,9 +1,11 @@
 // Document 01's tally of finishing calls.
+#![tactic(auto)]
+
 ghost use Rattle.std.specs.Prelude.{◌≡◌, ◌+◌};
 ghost use Rattle.tally.specs.Tally.{stopped, finished_after, refused_after, rounds_after, zero_tally, next_tally};
 
 // Frames finished, frames refused and rounds run.
-#[derive(Drop)]
+#[derive(Clone, Copy)]
 pub struct Tally {
     pub finished: u32,
     pub refused: u32,

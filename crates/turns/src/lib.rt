@@ -1,4 +1,6 @@
 // Document 01's turns: the turn as a value with its operations, and the turning call.
+#![tactic(auto)]
+
 ghost use Rattle.std.specs.Prelude.{◌≡◌, cond, ◌++◌, ℕ, ◌+◌, ◌*◌, ◌/◌, ◌%◌, ◌≤◌, ◌<◌, eqb, leb, length};
 ghost use Rattle.integers.specs.Lists.{overwrite};
 ghost use Rattle.planes.specs.Planes.{frame, listing};
@@ -11,33 +13,33 @@ ghost use Rattle.turns.specs.Turning.{shape_turned, then_questions, shape_turn_q
 ghost use Rattle.turns.specs.Filling.{mirror_place, source_row, source_plane};
 
 // A turn, 0 to 7: 4 and more exchange rows and columns first; then 1 mirrors left-right, 2 top-bottom, 3 both.
-#[derive(Drop)]
+#[derive(Clone, Copy)]
 pub struct Turn {
     pub number: u8,
 }
 
 // A turn and then another, as a single one; or the refusal's number.
-#[derive(Drop)]
+#[derive(Clone, Copy)]
 pub enum Composed {
     Single(Turn),
     Refused(u32),
 }
 
 // A turned width or height, in places.
-#[derive(Drop)]
+#[derive(Clone, Copy)]
 pub enum Extent {
     Places(usize),
     Refused(u32),
 }
 
-#[derive(Drop)]
+#[derive(Clone, Copy)]
 pub enum TurnedLayout {
     Layout(u8),
     Refused(u32),
 }
 
 // What the turning call answers.
-#[derive(Drop)]
+#[derive(Clone, Copy)]
 pub enum TurnedFrame {
     Accepted {
         width: usize,

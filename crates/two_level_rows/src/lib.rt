@@ -1,5 +1,7 @@
 // Inner: the projection of a plane on the details of a guide at two levels, in one sweep over the rows. Each of six stages lags behind those that it
 // needs, so that every row is still in a ring; the plane is read and written once. No sum needs more than 32 bits.
+#![tactic(auto)]
+
 ghost use Rattle.std.specs.Prelude.{◌≡◌, ◌+◌, ◌*◌, ◌≤◌, length};
 ghost use Rattle.filters.specs.Bank.{Distance};
 ghost use Rattle.rings.specs.Planes.{Projectable};

@@ -1,4 +1,6 @@
 // Inner: the rounds of red and of blue at two levels of the bank, with rings that are declared once for all rounds of a colour.
+#![tactic(auto)]
+
 ghost use Rattle.std.specs.Prelude.{◌≡◌, true, ◌+◌, ◌*◌, ◌≤◌, ◌<◌, pos, length};
 ghost use Rattle.planes.specs.Planes.{plane_of};
 ghost use Rattle.work_buffer.specs.Buffer.{with_plane, zeroed, Workable};

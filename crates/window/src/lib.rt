@@ -1,4 +1,6 @@
 // Inner: a plane's samples summed over the spot's window of 32 by 32 places.
+#![tactic(auto)]
+
 ghost use Rattle.std.specs.Prelude.{◌≡◌, ◌+◌, ◌≤◌, ◌<◌, length};
 ghost use Rattle.planes.specs.Planes.{plane_of};
 ghost use Rattle.window.specs.Window.{window_inside, WindowRoom, WindowSum, RowSum};

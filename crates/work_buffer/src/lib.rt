@@ -1,5 +1,7 @@
 // Inner: the work buffers that the update and the rounds are lent. Samples go in and out of the first as signed numbers, and at last both are
 // zeroed.
+#![tactic(auto)]
+
 ghost use Rattle.std.specs.Prelude.{◌≡◌, ◌≤◌, T, pos, nat_abs, length};
 ghost use Rattle.std.specs.Int.Signed.{non_neg};
 ghost use Rattle.integers.specs.Lists.{overwrite};

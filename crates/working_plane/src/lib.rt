@@ -1,4 +1,6 @@
 // Inner: a colour's working plane, which stands first in the work buffer: its samples in and out, and the observed samples put in.
+#![tactic(auto)]
+
 ghost use Rattle.std.specs.Prelude.{◌≡◌, ◌+◌, ◌*◌, ◌≤◌, ◌<◌, pos, length};
 ghost use Rattle.integers.specs.Numbers.{clipped};
 ghost use Rattle.integers.specs.Lists.{tabulate, overwrite};
@@ -12,7 +14,7 @@ ghost use Rattle.working_plane.specs.Colours.{given, other};
 
 // A colour's places, by the frame's sizes and the parities of the colour's rows and columns; and the threshold. The ceiling goes beside it, a
 // number that the compiler then clips with.
-#[derive(Drop)]
+#[derive(Clone, Copy)]
 pub struct Colour {
     pub width: usize,
     pub height: usize,

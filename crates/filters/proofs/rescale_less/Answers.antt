@@ -1,0 +1,70 @@
+-- `filters::rescale_less` meets its contract: every partial sum fits, and the shift is the whole division.
+use mathlib.Core.Path.{◌≡◌, sym, ◌∙◌, subst}
+use Prim.Native.Nat.{◌≤◌}
+use native.Mathlib.Omega.{arith}
+use lib.IntN.{ℤ, pos, nat_abs, ◌+ℤ◌, ◌-ℤ◌, ◌*ℤ◌}
+use lib.Signed.{shr_z}
+use mir.Syntax.{w32}
+use mir.Val.{to_z, of_z}
+use mir.Facts.{to_z-of_z as back}
+use Rattle.integers.specs.Numbers.{whole_divided, clamp}
+use Rattle.integers.proofs.Bounds.{abs_sub, read_is, fits, bounds}
+use Rattle.integers.proofs.Clamping.{clamp_bound}
+use Rattle.integers.proofs.Shifts.{shifted}
+use Rattle.filters.proofs.Quotients.{rescaled_from_least}
+use Rattle.filters.proofs.rescale_less.Goals as goal
+use Rattle.filters.proofs.rescale_less.Goals.{After-clipped, Start}
+
+pub overflow_mul-above : goal.overflow_mul-above
+overflow_mul-above c = fits (search bounds depth 14) tt
+
+pub overflow_sub-above : goal.overflow_sub-above
+overflow_sub-above c = fits (search bounds depth 14) tt
+
+pub overflow_sub-above-2 : goal.overflow_sub-above-2
+overflow_sub-above-2 c = fits (search bounds depth 14) tt
+
+pub overflow_add-above : goal.overflow_add-above
+overflow_add-above c = fits (search bounds depth 14) tt
+
+pub overflow_sub-most : goal.overflow_sub-most
+overflow_sub-most c = fits (search bounds depth 14) tt
+
+-- a number as the machine reads it
+abbrev read : ℤ → ℤ
+read z = to_z w32 (of_z w32 z)
+
+-- what is clipped, and the clip's upper end
+above : (s : goal.Start)
+    → let a = s.args in
+    read (read a.x +ℤ read (shr_z (read (read (pos 512 -ℤ read (pos 1024 *ℤ read a.least)) -ℤ read a.sum)) 1024))
+    ≡ a.x +ℤ whole_divided (pos 512 -ℤ pos 1024 *ℤ a.least -ℤ a.sum) 1024
+above s =
+    back (add-above s) ∙ (λ i. back s.ranges.x i +ℤ shifted w32 1024 (sub-above-2 s) sum i)
+  where
+    times : read (pos 1024 *ℤ read s.args.least) ≡ pos 1024 *ℤ s.args.least
+    times = back (mul-above s) ∙ (λ i. pos 1024 *ℤ back s.ranges.least i)
+
+    sum : read (pos 512 -ℤ read (pos 1024 *ℤ read s.args.least)) -ℤ read s.args.sum ≡ pos 512 -ℤ pos 1024 *ℤ s.args.least -ℤ s.args.sum
+    sum = λ i. (back (sub-above s) ∙ (λ j. pos 512 -ℤ times j)) i -ℤ back s.ranges.sum i
+
+span : (s : goal.Start) → read (read s.args.most -ℤ read s.args.least) ≡ s.args.most -ℤ s.args.least
+span s = back (sub-clipped s) ∙ (λ i. back s.ranges.most i -ℤ back s.ranges.least i)
+
+-- and what comes of them
+clip : (c : goal.After-clipped)
+    → let a = c.args in
+    read c.clipped.result ≡ clamp (pos 0) (a.most -ℤ a.least) (a.x +ℤ whole_divided (pos 512 -ℤ pos 1024 *ℤ a.least -ℤ a.sum) 1024)
+clip c = read_is w32 c.clipped.type_inv (c.clipped.ensures ∙ (λ i. clamp (pos 0) (span c.before i) (above c.before i)))
+
+pub overflow_add-result : goal.overflow_add-result
+overflow_add-result c =
+    let a = c.args in
+    let ends = c.requires.2 in
+    let b : nat_abs (read c.clipped.result) ≤ 262140 = subst (λ (z : ℤ). nat_abs z ≤ 262140) (sym (clip c)) (clamp_bound (pos 0) (a.most -ℤ a.least) (omega arith) (omega (arith, abs_sub a.most a.least, ends.from, ends.to)) _) in
+    fits (search bounds depth 14) tt
+
+pub returns : goal.returns
+returns c =
+    let a = c.args in
+    back (add-result c) ∙ (λ i. clip c i +ℤ back c.ranges.least i) ∙ rescaled_from_least a.least a.most a.x a.sum

@@ -1,0 +1,15 @@
+-- `printing::put_refusal` meets its contract: a refusal is the three parts, one after another.
+use native.Mathlib.Omega.{arith}
+use Rattle.printing.specs.Text.{refusal}
+use Rattle.printing.proofs.Putting.{put_then, put_front}
+use Rattle.printing.proofs.Texts.{length-refusal}
+use borrow.Author.Rules.{rules}
+use Rattle.printing.proofs.put_refusal.Goals as goal
+
+pub returns : goal.returns
+unfolding refusal
+returns c =
+    put_front
+    (refusal c.args.number)
+    (omega (arith, length-refusal c.args.number, c.requires))
+    (put_then c.put_bytes-at_number.ensures (put_then c.put_decimal-after_number.ensures.0 c.put_byte.ensures))

@@ -1,0 +1,17 @@
+-- `window::row_sum` meets its contract. The loop's invariant: the sum is that of the samples passed, each below 65,536.
+use mathlib.Core.Path.{◌≡◌}
+use mathlib.Core.List.{List}
+use Prim.Native.Nat.{ℕ, ◌+◌, ◌-◌, ◌*◌, ◌≤◌}
+use lib.ListN.{get_or}
+use Rattle.window.specs.Window.{total}
+use Rattle.window.proofs.row_sum.Given as goal
+
+-- the row's samples
+abbrev pub Sample : List ℕ → ℕ → ℕ → ℕ
+Sample plane from j = get_or plane (from + j) 0
+
+abbrev pub invariant-loop-j : goal.invariant-loop-j
+invariant-loop-j l = (l.j ≤ 32) × (l.sum ≡ total l.j (Sample l.plane l.from)) × (l.sum ≤ l.j * 65535)
+
+abbrev pub decreases-loop-j : goal.decreases-loop-j
+decreases-loop-j l = 32 - l.j
