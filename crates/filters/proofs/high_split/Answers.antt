@@ -20,5 +20,5 @@ overflow_add-result c = fits (search bounds depth 14) tt
 pub returns : goal.returns
 unfolding weighted high_split
 returns c =
-    rw (back (add-result c), back (sub-result c), back (mul-result c), back c.ranges.a, back c.ranges.b, back c.ranges.c)
+    rw (back (overflow_add-result c), back (overflow_sub-result c), back (overflow_mul-result c), back c.ranges.a, back c.ranges.b, back c.ranges.c)
     (linear (c.args.a ∷ c.args.b ∷ c.args.c ∷ []) (x₀ ⊖ pos 2 ⊛ x₁ ⊕ x₂) (weighted_linear high_split (number (pos 0)) x₀ x₁ x₂ (number (pos 0))) tt)

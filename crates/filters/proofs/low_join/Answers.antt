@@ -29,5 +29,5 @@ overflow_sub-result c = fits (search bounds depth 14) tt
 pub returns : goal.returns
 unfolding weighted low_join
 returns c =
-    rw (back (sub-result c), back (add-result-3 c), back (mul-result-2 c), back (add-result-2 c), back (add-result c), back (mul-result c), back c.ranges.a, back c.ranges.b, back c.ranges.c, back c.ranges.d, back c.ranges.e)
+    rw (back (overflow_sub-result c), back (overflow_add-result-3 c), back (overflow_mul-result-2 c), back (overflow_add-result-2 c), back (overflow_add-result c), back (overflow_mul-result c), back c.ranges.a, back c.ranges.b, back c.ranges.c, back c.ranges.d, back c.ranges.e)
     (linear (c.args.a ∷ c.args.b ∷ c.args.c ∷ c.args.d ∷ c.args.e ∷ []) (pos 2 ⊛ (x₁ ⊕ pos 3 ⊛ x₂ ⊕ x₃) ⊖ (x₀ ⊕ atom 4)) (weighted_linear low_join x₀ x₁ x₂ x₃ (atom 4)) tt)

@@ -40,16 +40,16 @@ above : (s : goal.Start)
     read (read a.x +ℤ read (shr_z (read (read (pos 512 -ℤ read (pos 1024 *ℤ read a.least)) -ℤ read a.sum)) 1024))
     ≡ a.x +ℤ whole_divided (pos 512 -ℤ pos 1024 *ℤ a.least -ℤ a.sum) 1024
 above s =
-    back (add-above s) ∙ (λ i. back s.ranges.x i +ℤ shifted w32 1024 (sub-above-2 s) sum i)
+    back (overflow_add-above s) ∙ (λ i. back s.ranges.x i +ℤ shifted w32 1024 (overflow_sub-above-2 s) sum i)
   where
     times : read (pos 1024 *ℤ read s.args.least) ≡ pos 1024 *ℤ s.args.least
-    times = back (mul-above s) ∙ (λ i. pos 1024 *ℤ back s.ranges.least i)
+    times = back (overflow_mul-above s) ∙ (λ i. pos 1024 *ℤ back s.ranges.least i)
 
     sum : read (pos 512 -ℤ read (pos 1024 *ℤ read s.args.least)) -ℤ read s.args.sum ≡ pos 512 -ℤ pos 1024 *ℤ s.args.least -ℤ s.args.sum
-    sum = λ i. (back (sub-above s) ∙ (λ j. pos 512 -ℤ times j)) i -ℤ back s.ranges.sum i
+    sum = λ i. (back (overflow_sub-above s) ∙ (λ j. pos 512 -ℤ times j)) i -ℤ back s.ranges.sum i
 
 span : (s : goal.Start) → read (read s.args.most -ℤ read s.args.least) ≡ s.args.most -ℤ s.args.least
-span s = back (sub-clipped s) ∙ (λ i. back s.ranges.most i -ℤ back s.ranges.least i)
+span s = back (overflow_sub-most s) ∙ (λ i. back s.ranges.most i -ℤ back s.ranges.least i)
 
 -- and what comes of them
 clip : (c : goal.After-clipped)
@@ -67,4 +67,4 @@ overflow_add-result c =
 pub returns : goal.returns
 returns c =
     let a = c.args in
-    back (add-result c) ∙ (λ i. clip c i +ℤ back c.ranges.least i) ∙ rescaled_from_least a.least a.most a.x a.sum
+    back (overflow_add-result c) ∙ (λ i. clip c i +ℤ back c.ranges.least i) ∙ rescaled_from_least a.least a.most a.x a.sum
