@@ -8,7 +8,7 @@ ghost use Rattle.planes.specs.Planes.{listing, Sizes};
 ghost use Rattle.questions.specs.Settings.{ceiling};
 ghost use Rattle.questions.specs.Questions.{ask, all_at_most};
 ghost use Rattle.questions.specs.Calls.{Result};
-ghost use Rattle.filters.specs.Bank.{Distance, split as split-plane, join as join-bands, brought_back};
+ghost use Rattle.filters.specs.Bank.{Distance, split as split_plane, join as join_bands, brought_back};
 ghost use Rattle.bank.specs.Planes.{Plane, plane, bands_of};
 ghost use Rattle.bank.specs.Calls.{bands, to_split, to_join, values_questions, split_questions, join_questions, split_call, join_call};
 
@@ -59,10 +59,10 @@ fn split_row(
     requires sizes { Sizes 1 width height × Plane to_split given.now width height × (r < height) }
     requires width_in_bounds { (width + 2 ≤ length low.old) × (width + 2 ≤ length high.old) }
     requires band1_len { (length band1.old ≡ width * height) × (length band2.old ≡ width * height) × (length band3.old ≡ width * height) × (length band4.old ≡ width * height) }
-    ensures band1_after { band1.new ≡ overwrite band1.old (r * width) width (λ c. (split-plane 1 width height (plane width given.now) r c).band1) }
-    ensures band2_after { band2.new ≡ overwrite band2.old (r * width) width (λ c. (split-plane 1 width height (plane width given.now) r c).band2) }
-    ensures band3_after { band3.new ≡ overwrite band3.old (r * width) width (λ c. (split-plane 1 width height (plane width given.now) r c).band3) }
-    ensures band4_after { band4.new ≡ overwrite band4.old (r * width) width (λ c. (split-plane 1 width height (plane width given.now) r c).band4) }
+    ensures band1_after { band1.new ≡ overwrite band1.old (r * width) width (λ c. (split_plane 1 width height (plane width given.now) r c).band1) }
+    ensures band2_after { band2.new ≡ overwrite band2.old (r * width) width (λ c. (split_plane 1 width height (plane width given.now) r c).band2) }
+    ensures band3_after { band3.new ≡ overwrite band3.old (r * width) width (λ c. (split_plane 1 width height (plane width given.now) r c).band3) }
+    ensures band4_after { band4.new ≡ overwrite band4.old (r * width) width (λ c. (split_plane 1 width height (plane width given.now) r c).band4) }
 {
     let above = border::reflected_before(height, r, 1) * width;
     let here = r * width;
@@ -87,10 +87,10 @@ fn split_rows(
     requires sizes { Sizes 1 width height × Plane to_split given.now width height }
     requires width_in_bounds { (width + 2 ≤ length low.old) × (width + 2 ≤ length high.old) }
     requires band1_len { (length band1.old ≡ width * height) × (length band2.old ≡ width * height) × (length band3.old ≡ width * height) × (length band4.old ≡ width * height) }
-    ensures band1_after { band1.new ≡ listing width height (λ r c. (split-plane 1 width height (plane width given.now) r c).band1) }
-    ensures band2_after { band2.new ≡ listing width height (λ r c. (split-plane 1 width height (plane width given.now) r c).band2) }
-    ensures band3_after { band3.new ≡ listing width height (λ r c. (split-plane 1 width height (plane width given.now) r c).band3) }
-    ensures band4_after { band4.new ≡ listing width height (λ r c. (split-plane 1 width height (plane width given.now) r c).band4) }
+    ensures band1_after { band1.new ≡ listing width height (λ r c. (split_plane 1 width height (plane width given.now) r c).band1) }
+    ensures band2_after { band2.new ≡ listing width height (λ r c. (split_plane 1 width height (plane width given.now) r c).band2) }
+    ensures band3_after { band3.new ≡ listing width height (λ r c. (split_plane 1 width height (plane width given.now) r c).band3) }
+    ensures band4_after { band4.new ≡ listing width height (λ r c. (split_plane 1 width height (plane width given.now) r c).band4) }
 {
     let mut r = 0;
     while r < height {
@@ -187,7 +187,7 @@ fn join_row(
 )
     requires sizes { Sizes 1 width height × (r < height) × Plane to_join band1.now width height × Plane to_join band2.now width height × Plane to_join band3.now width height × Plane to_join band4.now width height }
     requires width_in_bounds { (width + 4 ≤ length low.old) × (width + 4 ≤ length high.old) × (length sums.old ≡ width * height) }
-    ensures { sums.new ≡ overwrite sums.old (r * width) width (join-bands 1 width height (bands_of width (bands band1.now band2.now band3.now band4.now)) r) }
+    ensures { sums.new ≡ overwrite sums.old (r * width) width (join_bands 1 width height (bands_of width (bands band1.now band2.now band3.now band4.now)) r) }
 {
     let a = border::reflected_before(height, r, 2) * width;
     let b = border::reflected_before(height, r, 1) * width;
@@ -220,7 +220,7 @@ fn join_rows(
 )
     requires sizes { Sizes 1 width height × Plane to_join band1.now width height × Plane to_join band2.now width height × Plane to_join band3.now width height × Plane to_join band4.now width height }
     requires width_in_bounds { (width + 4 ≤ length low.old) × (width + 4 ≤ length high.old) × (length sums.old ≡ width * height) }
-    ensures { sums.new ≡ listing width height (join-bands 1 width height (bands_of width (bands band1.now band2.now band3.now band4.now))) }
+    ensures { sums.new ≡ listing width height (join_bands 1 width height (bands_of width (bands band1.now band2.now band3.now band4.now))) }
 {
     let mut r = 0;
     while r < height {

@@ -10,8 +10,8 @@ ghost use Rattle.questions.specs.Settings.{ceiling};
 ghost use Rattle.questions.specs.Questions.{ask};
 ghost use Rattle.questions.specs.Calls.{Result};
 ghost use Rattle.neighbourhood.specs.Inner.{Mosaic, inner};
-ghost use Rattle.neighbourhood.specs.Place.{neighbourhood as neighbourhood-of, around, bilinear};
-ghost use Rattle.estimate.specs.Estimates.{estimate as estimate-of};
+ghost use Rattle.neighbourhood.specs.Place.{neighbourhood as neighbourhood_of, around, bilinear};
+ghost use Rattle.estimate.specs.Estimates.{estimate as estimate_of};
 ghost use Rattle.estimate.specs.Calls.{estimate_questions, estimate_call};
 
 use questions::Answer;
@@ -48,9 +48,9 @@ fn estimate_part(
     requires mosaic { Mosaic mosaic.now width height × (r < height) }
     requires count_bound { first + count ≤ width }
     requires red_len { (length red.old ≡ width * height) × (length green.old ≡ width * height) × (length blue.old ≡ width * height) }
-    ensures red_after { red.new ≡ overwrite red.old (r * width + first) count (λ k. (estimate-of top width height layout (plane_of 0 width mosaic.now) r (first + k)).red) }
-    ensures green_after { green.new ≡ overwrite green.old (r * width + first) count (λ k. (estimate-of top width height layout (plane_of 0 width mosaic.now) r (first + k)).green) }
-    ensures blue_after { blue.new ≡ overwrite blue.old (r * width + first) count (λ k. (estimate-of top width height layout (plane_of 0 width mosaic.now) r (first + k)).blue) }
+    ensures red_after { red.new ≡ overwrite red.old (r * width + first) count (λ k. (estimate_of top width height layout (plane_of 0 width mosaic.now) r (first + k)).red) }
+    ensures green_after { green.new ≡ overwrite green.old (r * width + first) count (λ k. (estimate_of top width height layout (plane_of 0 width mosaic.now) r (first + k)).green) }
+    ensures blue_after { blue.new ≡ overwrite blue.old (r * width + first) count (λ k. (estimate_of top width height layout (plane_of 0 width mosaic.now) r (first + k)).blue) }
 {
     let at = r * width + first;
     let row = has_red_row(layout, r);
@@ -80,7 +80,7 @@ fn green_inside(
     requires mosaic { Mosaic mosaic.now width height × (r < height) }
     requires r_value { (inner height r ≡ true) × (2 ≤ first) × (first + count + 2 ≤ width) }
     requires green_len { length green.old ≡ width * height }
-    ensures { green.new ≡ overwrite green.old (r * width + first) count (λ k. (estimate-of top width height layout (plane_of 0 width mosaic.now) r (first + k)).green) }
+    ensures { green.new ≡ overwrite green.old (r * width + first) count (λ k. (estimate_of top width height layout (plane_of 0 width mosaic.now) r (first + k)).green) }
 {
     let at = r * width + first;
     let row = has_red_row(layout, r);
@@ -108,7 +108,7 @@ fn colour_inside(
     requires mosaic { Mosaic mosaic.now width height × (r < height) }
     requires r_value { (inner height r ≡ true) × (2 ≤ first) × (first + count + 2 ≤ width) }
     requires plane_len { length plane.old ≡ width * height }
-    ensures { plane.new ≡ overwrite plane.old (r * width + first) count (λ k. bilinear (beq (on_red_row layout r) is_red) (beq (on_red_column layout (first + k)) is_red) (around (neighbourhood-of width height (plane_of 0 width mosaic.now) r (first + k)))) }
+    ensures { plane.new ≡ overwrite plane.old (r * width + first) count (λ k. bilinear (beq (on_red_row layout r) is_red) (beq (on_red_column layout (first + k)) is_red) (around (neighbourhood_of width height (plane_of 0 width mosaic.now) r (first + k)))) }
 {
     let at = r * width + first;
     let row = has_red_row(layout, r) == is_red;
@@ -136,9 +136,9 @@ fn inner_row(
     requires mosaic { Mosaic raw.now width height × (r < height) }
     requires r_value { (inner height r ≡ true) × (4 < width) }
     requires red_len { (length red.old ≡ width * height) × (length green.old ≡ width * height) × (length blue.old ≡ width * height) }
-    ensures red_after { red.new ≡ overwrite red.old (r * width) width (λ c. (estimate-of top width height layout (plane_of 0 width raw.now) r c).red) }
-    ensures green_after { green.new ≡ overwrite green.old (r * width) width (λ c. (estimate-of top width height layout (plane_of 0 width raw.now) r c).green) }
-    ensures blue_after { blue.new ≡ overwrite blue.old (r * width) width (λ c. (estimate-of top width height layout (plane_of 0 width raw.now) r c).blue) }
+    ensures red_after { red.new ≡ overwrite red.old (r * width) width (λ c. (estimate_of top width height layout (plane_of 0 width raw.now) r c).red) }
+    ensures green_after { green.new ≡ overwrite green.old (r * width) width (λ c. (estimate_of top width height layout (plane_of 0 width raw.now) r c).green) }
+    ensures blue_after { blue.new ≡ overwrite blue.old (r * width) width (λ c. (estimate_of top width height layout (plane_of 0 width raw.now) r c).blue) }
 {
     let count = width - 4;
     estimate_part(top, raw, width, height, layout, r, 0, 2, red, green, blue);
@@ -174,9 +174,9 @@ fn estimate_row(
 )
     requires mosaic { Mosaic mosaic.now width height × (r < height) }
     requires red_len { (length red.old ≡ width * height) × (length green.old ≡ width * height) × (length blue.old ≡ width * height) }
-    ensures red_after { red.new ≡ overwrite red.old (r * width) width (λ c. (estimate-of top width height layout (plane_of 0 width mosaic.now) r c).red) }
-    ensures green_after { green.new ≡ overwrite green.old (r * width) width (λ c. (estimate-of top width height layout (plane_of 0 width mosaic.now) r c).green) }
-    ensures blue_after { blue.new ≡ overwrite blue.old (r * width) width (λ c. (estimate-of top width height layout (plane_of 0 width mosaic.now) r c).blue) }
+    ensures red_after { red.new ≡ overwrite red.old (r * width) width (λ c. (estimate_of top width height layout (plane_of 0 width mosaic.now) r c).red) }
+    ensures green_after { green.new ≡ overwrite green.old (r * width) width (λ c. (estimate_of top width height layout (plane_of 0 width mosaic.now) r c).green) }
+    ensures blue_after { blue.new ≡ overwrite blue.old (r * width) width (λ c. (estimate_of top width height layout (plane_of 0 width mosaic.now) r c).blue) }
 {
     if neighbourhood::is_inner(height, r) && 4 < width {
         inner_row(top, mosaic, width, height, layout, r, red, green, blue);
@@ -200,9 +200,9 @@ fn estimate_rows(
 )
     requires mosaic { Mosaic mosaic.now width height }
     requires red_len { (length red.old ≡ width * height) × (length green.old ≡ width * height) × (length blue.old ≡ width * height) }
-    ensures red_after { red.new ≡ listing width height (λ r c. (estimate-of top width height layout (plane_of 0 width mosaic.now) r c).red) }
-    ensures green_after { green.new ≡ listing width height (λ r c. (estimate-of top width height layout (plane_of 0 width mosaic.now) r c).green) }
-    ensures blue_after { blue.new ≡ listing width height (λ r c. (estimate-of top width height layout (plane_of 0 width mosaic.now) r c).blue) }
+    ensures red_after { red.new ≡ listing width height (λ r c. (estimate_of top width height layout (plane_of 0 width mosaic.now) r c).red) }
+    ensures green_after { green.new ≡ listing width height (λ r c. (estimate_of top width height layout (plane_of 0 width mosaic.now) r c).green) }
+    ensures blue_after { blue.new ≡ listing width height (λ r c. (estimate_of top width height layout (plane_of 0 width mosaic.now) r c).blue) }
 {
     let mut r = 0;
     while r < height {

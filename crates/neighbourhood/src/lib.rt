@@ -9,7 +9,7 @@ ghost use Rattle.border.specs.Border.{reflect};
 ghost use Rattle.planes.specs.Layout.{by_parity};
 ghost use Rattle.planes.specs.Planes.{plane_of};
 ghost use Rattle.neighbourhood.specs.Inner.{Mosaic, inner, line_of, half_along, SmallResult, most_detail, most_along, most_greens};
-ghost use Rattle.neighbourhood.specs.Place.{neighbourhood as neighbourhood-of, around, greens as greens-of, two_away as two-away-of, gradient as gradient-of, eight_greens as eight-of, hamilton_adams, green_at as green-by, of_two as two-rounded, of_four as four-rounded, bilinear};
+ghost use Rattle.neighbourhood.specs.Place.{neighbourhood as neighbourhood_of, around, greens as greens_of, two_away as two_away_of, gradient as gradient_of, eight_greens as eight_of, hamilton_adams, green_at as green_by, of_two as two_rounded, of_four as four_rounded, bilinear};
 
 // Five samples of a row, from `from` on.
 fn row_inside(mosaic: &[u16], from: usize) -> [u16; 5]
@@ -29,7 +29,7 @@ fn row_inside(mosaic: &[u16], from: usize) -> [u16; 5]
 pub fn inside(mosaic: &[u16], width: usize, height: usize, r: usize, c: usize) -> [[u16; 5]; 5]
     requires mosaic { Mosaic mosaic.now width height }
     requires r_value { (inner height r ≡ true) × (inner width c ≡ true) }
-    ensures { result ≡ neighbourhood-of width height (plane_of 0 width mosaic.now) r c }
+    ensures { result ≡ neighbourhood_of width height (plane_of 0 width mosaic.now) r c }
 {
     let from = (r - 2) * width + (c - 2);
     [
@@ -70,7 +70,7 @@ fn row_before(mosaic: &[u16], width: usize, height: usize, r: usize, c: usize) -
 fn reflected(mosaic: &[u16], width: usize, height: usize, r: usize, c: usize) -> [[u16; 5]; 5]
     requires mosaic { Mosaic mosaic.now width height }
     requires r_lt_height { (r < height) × (c < width) }
-    ensures { result ≡ neighbourhood-of width height (plane_of 0 width mosaic.now) r c }
+    ensures { result ≡ neighbourhood_of width height (plane_of 0 width mosaic.now) r c }
 {
     [
         row_before(mosaic, width, height, r, c),
@@ -102,7 +102,7 @@ pub fn neighbourhood(
 ) -> [[u16; 5]; 5]
     requires mosaic { Mosaic mosaic.now width height }
     requires r_lt_height { (r < height) × (c < width) }
-    ensures { result ≡ neighbourhood-of width height (plane_of 0 width mosaic.now) r c }
+    ensures { result ≡ neighbourhood_of width height (plane_of 0 width mosaic.now) r c }
 {
     if is_inner(height, r) && is_inner(width, c) {
         return inside(mosaic, width, height, r, c);
@@ -126,21 +126,21 @@ fn signed(sample: u16) -> i32
 
 // The two green neighbours in a row, or in a column.
 fn greens(line: [u16; 5]) -> i32
-    ensures { SmallResult 131070 result (greens-of (line_of line)) }
+    ensures { SmallResult 131070 result (greens_of (line_of line)) }
 {
     signed(line[1]) + signed(line[3])
 }
 
 // The two values two away.
 fn two_away(line: [u16; 5]) -> i32
-    ensures { SmallResult 131070 result (two-away-of (line_of line)) }
+    ensures { SmallResult 131070 result (two_away_of (line_of line)) }
 {
     signed(line[0]) + signed(line[4])
 }
 
 // 2C − the two values two away, C being the place's own value.
 fn detail(line: [u16; 5]) -> i32
-    ensures { SmallResult most_detail result (pos 2 *ℤ line_of line (pos 0) -ℤ two-away-of (line_of line)) }
+    ensures { SmallResult most_detail result (pos 2 *ℤ line_of line (pos 0) -ℤ two_away_of (line_of line)) }
 {
     2 * signed(line[2]) - two_away(line)
 }
@@ -158,7 +158,7 @@ fn size(x: i32) -> i32
 
 // H of a row, or V of a column, of five samples about a place.
 fn gradient(line: [u16; 5]) -> i32
-    ensures { SmallResult most_along result (pos (gradient-of (line_of line))) }
+    ensures { SmallResult most_along result (pos (gradient_of (line_of line))) }
 {
     size(signed(line[1]) - signed(line[3])) + size(detail(line))
 }
@@ -185,7 +185,7 @@ fn chosen(h: i32, v: i32, first: i32, second: i32) -> i32
 // Eight times the green, by the smaller of H and V twice, or once by each if they are equal.
 fn eight_greens(row: [u16; 5], column: [u16; 5]) -> i32
     requires { line_of row (pos 0) ≡ line_of column (pos 0) }
-    ensures { SmallResult most_greens result (eight-of (line_of row) (line_of column)) }
+    ensures { SmallResult most_greens result (eight_of (line_of row) (line_of column)) }
 {
     let h = gradient(row);
     let v = gradient(column);
@@ -233,7 +233,7 @@ fn picked(first: bool, a: u16, b: u16) -> u16
 
 // Green at any place: estimated where it was not observed.
 pub fn green_at(top: u16, n: [[u16; 5]; 5], on_row: bool, on_column: bool) -> u16
-    ensures { result ≡ green-by top (by_parity on_row on_column) (around n) }
+    ensures { result ≡ green_by top (by_parity on_row on_column) (around n) }
 {
     let estimated = on_row == on_column;
     picked(estimated, green_estimate(top, n), n[2][2])
@@ -241,21 +241,21 @@ pub fn green_at(top: u16, n: [[u16; 5]; 5], on_row: bool, on_column: bool) -> u1
 
 // The half of two samples' sum, rounded.
 fn of_two(a: u16, b: u16) -> u16
-    ensures { result ≡ two-rounded a b }
+    ensures { result ≡ two_rounded a b }
 {
     ((wide(a) + wide(b) + 1) / 2) as u16
 }
 
 // The quarter of four samples' sum, rounded.
 fn of_four(a: u16, b: u16, c: u16, d: u16) -> u16
-    ensures { result ≡ four-rounded a b c d }
+    ensures { result ≡ four_rounded a b c d }
 {
     ((wide(a) + wide(b) + wide(c) + wide(d) + 2) / 4) as u16
 }
 
 // Red or blue in a row of the colour's places: observed, or from the two beside it.
 fn on_its_row(row: [u16; 5], on_column: bool) -> u16
-    ensures { result ≡ cond on_column (get_or row 2 0) (two-rounded (get_or row 1 0) (get_or row 3 0)) }
+    ensures { result ≡ cond on_column (get_or row 2 0) (two_rounded (get_or row 1 0) (get_or row 3 0)) }
 {
     let between = of_two(row[1], row[3]);
     picked(on_column, row[2], between)
@@ -263,7 +263,7 @@ fn on_its_row(row: [u16; 5], on_column: bool) -> u16
 
 // Red or blue between two rows of the colour's places: from the two above and below it, or from the four diagonals.
 fn between_rows(above: [u16; 5], below: [u16; 5], on_column: bool) -> u16
-    ensures { result ≡ cond on_column (two-rounded (get_or above 2 0) (get_or below 2 0)) (four-rounded (get_or above 1 0) (get_or above 3 0) (get_or below 1 0) (get_or below 3 0)) }
+    ensures { result ≡ cond on_column (two_rounded (get_or above 2 0) (get_or below 2 0)) (four_rounded (get_or above 1 0) (get_or above 3 0) (get_or below 1 0) (get_or below 3 0)) }
 {
     let between = of_two(above[2], below[2]);
     let amid = of_four(above[1], above[3], below[1], below[3]);

@@ -1,0 +1,34 @@
+-- `estimate::estimate_refusal` meets its contract: the shape's questions, then 6, 7 and 9.
+use mathlib.Core.Path.{sym, ◌∙◌}
+use mathlib.Core.Bool.{true, false}
+use native.Mathlib.Omega.{arith}
+use Rattle.questions.proofs.Asking.{asking, ask-first, ask_then, sizes_known}
+use Rattle.estimate.proofs.estimate_refusal.Goals as goal
+
+pub returns-then-number-ne0 : goal.returns-then-number-ne0
+returns-then-number-ne0 c = ask-first _ _ _ c.shape-number.ensures c.if-number-ne0.true
+
+pub overflow_mul-count : goal.overflow_mul-count
+overflow_mul-count c = record { fits = omega (arith, (sizes_known _ _ _ _ _ c.shape-number.ensures tt c.if-number-ne0.false).area) }
+
+pub returns-then-given-count : goal.returns-then-given-count
+returns-then-given-count c = ask_then _ _ _ _ c.shape-number.ensures tt c.if-number-ne0.false (search asking depth 24)
+
+pub returns-then-red_room-count : goal.returns-then-red_room-count
+returns-then-red_room-count c = ask_then _ _ _ _ c.shape-number.ensures tt c.if-number-ne0.false (search asking depth 24)
+
+pub returns-then-green_room-count : goal.returns-then-green_room-count
+returns-then-green_room-count c = ask_then _ _ _ _ c.shape-number.ensures tt c.if-number-ne0.false (search asking depth 24)
+
+pub returns-then-blue_room-count : goal.returns-then-blue_room-count
+returns-then-blue_room-count c = ask_then _ _ _ _ c.shape-number.ensures tt c.if-number-ne0.false (search asking depth 24)
+
+pub returns-then-not-samples_within : goal.returns-then-not-samples_within
+returns-then-not-samples_within c =
+    let above = sym c.samples_within.ensures ∙ c.if-not-samples_within.true in
+    ask_then _ _ _ _ c.shape-number.ensures tt c.if-number-ne0.false (search asking depth 24)
+
+pub returns : goal.returns
+returns c =
+    let within = sym c.samples_within.ensures ∙ c.if-not-samples_within.false in
+    ask_then _ _ _ _ c.shape-number.ensures tt c.if-number-ne0.false (search asking depth 24)

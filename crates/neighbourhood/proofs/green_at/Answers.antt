@@ -1,0 +1,22 @@
+-- `neighbourhood::green_at` meets its contract.
+use mathlib.Core.Path.{◌∙◌}
+use mathlib.Core.Bool.{cond, beq}
+use lib.IntN.{pos}
+use borrow.Author.Rules.{rules}
+use Rattle.neighbourhood.specs.Place.{around}
+use Rattle.neighbourhood.proofs.Places.{green_picked}
+use Rattle.neighbourhood.proofs.green_at.Goals as goal
+
+-- NO NEED bounds-1-picked
+-- index-1-picked : tie.Need-bounds-1-picked
+-- index-1-picked c = search rules
+
+-- NO NEED bounds-2-picked
+-- index-2-picked : tie.Need-bounds-2-picked
+-- index-2-picked c = search rules
+
+pub returns : goal.returns
+unfolding around
+returns c =
+    let a = c.args in
+    c.picked.ensures ∙ (λ i. cond (beq a.on_row a.on_column) (c.green_estimate.ensures i) (around a.n (pos 0) (pos 0))) ∙ green_picked (around a.n) a.top a.on_row a.on_column
