@@ -1,16 +1,7 @@
 -- `packet::packet_samples` meets its contract.
 use Rattle.packet.proofs.Stores.{SoundPacket, sound, part_no, part_yes}
-use borrow.Author.Rules.{rules}
 use Rattle.packet.proofs.packet_samples.Goals as goal
 use Rattle.packet.proofs.packet_samples.Goals.{Else-packet_refusal-ne0}
-
--- NO NEED slice-bounds-result-start
--- part-result-start : tie.Need-slice-bounds-result-start
--- part-result-start c = search rules
-
--- NO NEED slice-bounds-result-end
--- part-result-end : tie.Need-slice-bounds-result-end
--- part-result-end c = search rules
 
 pub returns-then-packet_refusal-ne0 : goal.returns-then-packet_refusal-ne0
 returns-then-packet_refusal-ne0 c = part_no c.args.store.now _ c.packet_refusal.ensures c.if-packet_refusal-ne0.true

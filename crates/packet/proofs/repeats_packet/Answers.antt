@@ -4,7 +4,6 @@ use mathlib.Core.Bool.{Bool, true, false, cond}
 use mathlib.Core.List.{List}
 use Prim.Native.Nat.{ℕ}
 use lib.ListN.{length}
-use Rattle.integers.proofs.Tests.{tested}
 use Rattle.packet.specs.Packet.{fields_of, same_fields}
 use Rattle.packet.specs.Calls.{RepeatResult}
 use Rattle.packet.specs.declared.Repeat.TheVariants.{Yes, No}
@@ -37,7 +36,7 @@ pub returns-then-not-same : goal.returns-then-not-same
 returns-then-not-same c =
     let a = c.args in
     repeat_yes a.a.now a.b.now _ c.repeat_refusal-number.ensures c.if-number-ne0.false false
-    (other-fields a.a.now a.b.now (tested true (fields_compared (goal.at.returns-then-not-same c).After-same_fields-same) c.if-not-same.true))
+    (other-fields a.a.now a.b.now (sym (fields_compared (goal.at.returns-then-not-same c).After-same_fields-same) ∙ c.if-not-same.true))
 
 pub sample_part-requires : goal.sample_part-requires
 sample_part-requires c = let k = known (goal.at.sample_part-requires c).Else-number-ne0 in search (k.0.at.asked, k.1.at.asked)
@@ -51,7 +50,7 @@ as_long e f n = ap length e ∙ n ∙ sym (ap length f)
 
 pub same_samples-requires : goal.same_samples-requires
 same_samples-requires c =
-    let n = parts_alike _ _ (tested false (fields_compared (goal.at.same_samples-requires c).After-same_fields-same) c.if-not-same.false) (known (goal.at.same_samples-requires c).Else-number-ne0).0 (known (goal.at.same_samples-requires c).Else-number-ne0).1 in
+    let n = parts_alike _ _ (sym (fields_compared (goal.at.same_samples-requires c).After-same_fields-same) ∙ c.if-not-same.false) (known (goal.at.same_samples-requires c).Else-number-ne0).0 (known (goal.at.same_samples-requires c).Else-number-ne0).1 in
     as_long c.sample_part.ensures c.sample_part-2.ensures (search (n))
 
 -- the answer, where the comparison of the samples said x
@@ -59,7 +58,7 @@ answered : (c : goal.After-same_samples) (x : Bool) → c.same_samples.result �
     → let a = c.args in RepeatResult a.a.now a.b.now (cond x Yes No)
 answered c x z =
     repeat_yes _ _ _ c.repeat_refusal-number.ensures c.if-number-ne0.false x
-    (sym z ∙ c.same_samples.ensures ∙ samples_decide _ _ (tested false (fields_compared c.before.before.before.before) c.if-not-same.false) _ _ c.sample_part.ensures c.sample_part-2.ensures)
+    (sym z ∙ c.same_samples.ensures ∙ samples_decide _ _ (sym (c.same_fields-same.ensures ∙ λ j. same_fields (c.trailer_fields.ensures j) (c.trailer_fields-2.ensures j)) ∙ c.if-not-same.false) _ _ c.sample_part.ensures c.sample_part-2.ensures)
 
 pub returns-then-same_samples : goal.returns-then-same_samples
 returns-then-same_samples c = answered (goal.at.returns-then-same_samples c).After-same_samples true c.if-same_samples.true

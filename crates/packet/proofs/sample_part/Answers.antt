@@ -2,7 +2,6 @@
 use mathlib.Core.Path.{refl, sym}
 use native.Mathlib.Omega.{arith}
 use Rattle.packet.proofs.Stores.{Located, located, part_is}
-use borrow.Author.Rules.{rules}
 use Rattle.packet.proofs.sample_part.Goals as goal
 use Rattle.packet.proofs.sample_part.Goals.{After-shared_slice_known-1}
 
@@ -21,13 +20,8 @@ trailer_place-end-requires c = (known (goal.at.trailer_place-end-requires c).Aft
 pub slice_bounds-result-count : goal.slice_bounds-result-count
 slice_bounds-result-count c = let k = known (goal.at.slice_bounds-result-count c).After-shared_slice_known-1 in omega (arith, c.distance_back.ensures, c.trailer_place-end.ensures, k.within, k.back)
 
--- NO NEED slice-bounds-result-start
--- part-result-start : tie.Need-slice-bounds-result-start
--- part-result-start c = let k = known c.before.before in omega (arith, c.before.distance_back.ensures, c.trailer_place.ensures, k.within, k.back)
-
--- NO NEED slice-bounds-result-end
--- part-result-end : tie.Need-slice-bounds-result-end
--- part-result-end c = search rules
+pub slice_bounds-result-start : goal.slice_bounds-result-start
+slice_bounds-result-start c = let k = known (goal.at.slice_bounds-result-start c).After-shared_slice_known-1 in omega (arith, c.distance_back.ensures, c.trailer_place-end.ensures, k.within, k.back)
 
 pub returns : goal.returns
 returns c = part_is _ _ c.trailer_place-end.ensures _ c.distance_back.ensures

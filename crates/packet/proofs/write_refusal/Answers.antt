@@ -1,9 +1,9 @@
 -- `packet::write_refusal` meets its contract: the fields' questions, then 6, 9 and 14.
+use mathlib.Core.Path.{sym}
 use mathlib.Core.Path.{◌≡◌, ap, ◌∙◌}
 use mathlib.Core.Bool.{true, false}
 use Prim.Native.Nat.{ℕ}
 use native.Mathlib.Omega.{arith}
-use Rattle.integers.proofs.Tests.{tested}
 use Rattle.questions.specs.Settings.{ceiling_of}
 use Rattle.questions.specs.Questions.{all_at_most}
 use Rattle.questions.proofs.Asking.{asking, ask-first, ask_then, all_yes}
@@ -32,15 +32,15 @@ scanned c =
 
 pub returns-then-not-within : goal.returns-then-not-within
 returns-then-not-within c =
-    let above = tested true (scanned (goal.at.returns-then-not-within c).After-samples_within-within) c.if-not-within.true in
+    let above = sym (scanned (goal.at.returns-then-not-within c).After-samples_within-within) ∙ c.if-not-within.true in
     ask_then _ _ _ _ c.frame-number.ensures tt c.if-number-ne0.false (search asking)
 
 pub returns-then-room-length : goal.returns-then-room-length
 returns-then-room-length c =
-    let within = tested false (scanned (goal.at.returns-then-room-length c).After-samples_within-within) c.if-not-within.false in
+    let within = sym (scanned (goal.at.returns-then-room-length c).After-samples_within-within) ∙ c.if-not-within.false in
     ask_then _ _ _ _ c.frame-number.ensures tt c.if-number-ne0.false (search asking)
 
 pub returns : goal.returns
 returns c =
-    let within = tested false (scanned (goal.at.returns c).After-samples_within-within) c.if-not-within.false in
+    let within = sym (scanned (goal.at.returns c).After-samples_within-within) ∙ c.if-not-within.false in
     ask_then _ _ _ _ c.frame-number.ensures tt c.if-number-ne0.false (search asking)
