@@ -1,0 +1,37 @@
+-- `bank::split_refusal` meets its contract: 1 and 2, then 6, 7 and 15.
+use mathlib.Core.Path.{sym, ◌∙◌}
+use mathlib.Core.Bool.{true, false}
+use native.Mathlib.Omega.{arith}
+use Rattle.questions.proofs.Asking.{asking, ask-first, ask_then, sizes_known}
+use Rattle.bank.proofs.split_refusal.Goals as goal
+
+pub returns-then-number-ne0 : goal.returns-then-number-ne0
+returns-then-number-ne0 c = ask-first _ _ _ c.sizes-number.ensures c.if-number-ne0.true
+
+pub overflow_mul-count : goal.overflow_mul-count
+overflow_mul-count c = record { fits = omega (arith, (sizes_known _ _ _ _ _ c.sizes-number.ensures tt c.if-number-ne0.false).area) }
+
+pub returns-then-given-count : goal.returns-then-given-count
+returns-then-given-count c = ask_then _ _ _ _ c.sizes-number.ensures tt c.if-number-ne0.false (search asking depth 24)
+
+pub returns-then-room1-count : goal.returns-then-room1-count
+returns-then-room1-count c = ask_then _ _ _ _ c.sizes-number.ensures tt c.if-number-ne0.false (search asking depth 24)
+
+pub returns-then-room2-count : goal.returns-then-room2-count
+returns-then-room2-count c = ask_then _ _ _ _ c.sizes-number.ensures tt c.if-number-ne0.false (search asking depth 24)
+
+pub returns-then-room3-count : goal.returns-then-room3-count
+returns-then-room3-count c = ask_then _ _ _ _ c.sizes-number.ensures tt c.if-number-ne0.false (search asking depth 24)
+
+pub returns-then-room4-count : goal.returns-then-room4-count
+returns-then-room4-count c = ask_then _ _ _ _ c.sizes-number.ensures tt c.if-number-ne0.false (search asking depth 24)
+
+pub returns-then-not-values_within : goal.returns-then-not-values_within
+returns-then-not-values_within c =
+    let above = sym c.values_within.ensures ∙ c.if-not-values_within.true in
+    ask_then _ _ _ _ c.sizes-number.ensures tt c.if-number-ne0.false (search asking depth 24)
+
+pub returns : goal.returns
+returns c =
+    let within = sym c.values_within.ensures ∙ c.if-not-values_within.false in
+    ask_then _ _ _ _ c.sizes-number.ensures tt c.if-number-ne0.false (search asking depth 24)
