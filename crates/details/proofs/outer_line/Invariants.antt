@@ -2,15 +2,13 @@
 use mathlib.Core.Path.{◌≡◌}
 use Prim.Native.Nat.{◌-◌, ◌≤◌}
 use lib.ListN.{length}
-use mir.Syntax.{w32}
-use mir.Val.{to_z}
 use Rattle.integers.specs.Lists.{overwrite}
 use Rattle.filters.specs.Bank.{high_split}
 use Rattle.details.specs.Details.{outer}
 use Rattle.details.proofs.outer_line.Given as goal
 
 abbrev pub invariant-loop-k : goal.invariant-loop-k
-invariant-loop-k l = (l.k ≤ l.n) × (l.out ≡ overwrite l.initial.out l.at l.k (outer high_split (to_z w32 l.limit) l.d l.line)) × (length l.out ≡ length l.initial.out)
+invariant-loop-k l = (l.k ≤ l.n) × (l.out ≡ overwrite l.initial.out l.at l.k (outer high_split l.limit l.d l.line)) × (length l.out ≡ length l.initial.out)
 
 abbrev pub decreases-loop-k : goal.decreases-loop-k
 decreases-loop-k l = l.n - l.k

@@ -2,14 +2,12 @@
 use mathlib.Core.Path.{◌≡◌}
 use Prim.Native.Nat.{◌-◌, ◌≤◌}
 use lib.ListN.{length}
-use mir.Syntax.{w32}
-use mir.Val.{to_z}
 use Rattle.integers.specs.Lists.{overwrite}
 use Rattle.details.specs.Details.{outer_minus, outer_plus}
 use Rattle.details.proofs.outer_lines.Given as goal
 
 abbrev pub invariant-loop-k : goal.invariant-loop-k
-invariant-loop-k l = (l.k ≤ l.n) × (l.minus ≡ overwrite l.initial.minus l.at l.k (outer_minus (to_z w32 l.limit) l.d l.line)) × (l.plus ≡ overwrite l.initial.plus l.at l.k (outer_plus (to_z w32 l.limit) l.d l.line)) × (length l.minus ≡ length l.initial.minus) × (length l.plus ≡ length l.initial.plus)
+invariant-loop-k l = (l.k ≤ l.n) × (l.minus ≡ overwrite l.initial.minus l.at l.k (outer_minus l.limit l.d l.line)) × (l.plus ≡ overwrite l.initial.plus l.at l.k (outer_plus l.limit l.d l.line)) × (length l.minus ≡ length l.initial.minus) × (length l.plus ≡ length l.initial.plus)
 
 abbrev pub decreases-loop-k : goal.decreases-loop-k
 decreases-loop-k l = l.n - l.k

@@ -2,15 +2,13 @@
 use mathlib.Core.Path.{◌≡◌}
 use Prim.Native.Nat.{◌+◌, ◌-◌, ◌≤◌}
 use lib.ListN.{length}
-use mir.Syntax.{w32}
-use mir.Val.{to_z}
 use Rattle.integers.specs.Lists.{overwrite}
 use Rattle.planes.specs.Lists.{value}
 use Rattle.details.specs.Details.{crossed, settled}
 use Rattle.details.proofs.settle_line.Given as goal
 
 abbrev pub invariant-loop-k : goal.invariant-loop-k
-invariant-loop-k l = (l.k ≤ l.n) × (l.own ≡ overwrite l.initial.own l.at l.k (λ i. settled (to_z w32 l.least) (to_z w32 l.most) (value l.initial.own (l.at + i)) (crossed l.apart l.together l.starts i))) × (length l.own ≡ length l.initial.own)
+invariant-loop-k l = (l.k ≤ l.n) × (l.own ≡ overwrite l.initial.own l.at l.k (λ i. settled l.least l.most (value l.initial.own (l.at + i)) (crossed l.apart l.together l.starts i))) × (length l.own ≡ length l.initial.own)
 
 abbrev pub decreases-loop-k : goal.decreases-loop-k
 decreases-loop-k l = l.n - l.k
