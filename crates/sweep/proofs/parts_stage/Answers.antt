@@ -24,10 +24,13 @@ use Rattle.rings.specs.Stages.{Working}
 use Rattle.rings.proofs.Rows.{slot_fits, slot_room, ring_runs, line_laid, line_run, outer_runs, both_laid}
 use Rattle.rings.proofs.Stages.{working, at_row, ring_worked, ring_idle}
 use Rattle.sweep.proofs.parts_stage.Goals as goal
-use Rattle.sweep.proofs.parts_stage.Goals.{After-outer_lines, After-split_line, Else-done-r}
+use Rattle.sweep.proofs.parts_stage.Goals.{After-outer_line, After-outer_lines, After-pad_line-2, After-split_line, Else-done-r, Start}
 
 -- ---- where the row is made
 module _ (e : goal.Else-done-r) where
+  abbrev begun : goal.Start
+  begun = e.before.before.before
+
   abbrev given : Given
   given = e.args.given
 
@@ -47,7 +50,7 @@ module _ (e : goal.Else-done-r) where
   source = e.args.source.now
 
   more : row < e.done.result
-  more = omega (arith, e.if-done-r.left)
+  more = omega (arith, e.if-done-r.false)
 
   works : Working level.lag given.height e.args.t
   works = working level.lag given e.args.t e.done-r.ensures e.done.ensures more
@@ -95,78 +98,102 @@ nonzero_rem-slot c = omega (arith, c.requires.sizes.2.slots_from)
 
 pub overflow_mul-slot : goal.overflow_mul-slot
 overflow_mul-slot c =
+    let e = (goal.at.overflow_mul-slot c).Else-done-r in
     let p = c.requires.sizes in
-    slot_fits _ _ (omega (arith, mod-lt (row (goal.at.overflow_mul-slot c).Else-done-r) p.2.slots_from, mod-lt (row (goal.at.overflow_mul-slot c).Else-done-r) p.2.source_from, p.2.slots_to, p.2.source_to)) p.0.width_to
+    slot_fits _ _ (omega (arith, mod-lt (row e) p.2.slots_from, mod-lt (row e) p.2.source_from, p.2.slots_to, p.2.source_to)) p.0.width_to
 
 pub nonzero_rem-here : goal.nonzero_rem-here
 nonzero_rem-here c = omega (arith, c.requires.sizes.2.source_from)
 
 pub overflow_mul-here : goal.overflow_mul-here
 overflow_mul-here c =
+    let e = (goal.at.overflow_mul-here c).Else-done-r in
     let p = c.requires.sizes in
-    slot_fits _ _ (omega (arith, mod-lt (row (goal.at.overflow_mul-here c).Else-done-r) p.2.source_from, p.2.source_to)) p.0.width_to
+    slot_fits _ _ (omega (arith, mod-lt (row e) p.2.source_from, p.2.source_to)) p.0.width_to
 
 pub slot_before-above-requires : goal.slot_before-above-requires
 slot_before-above-requires c = let p = c.requires.sizes in (p.2.source_from, p.2.source_to, p.0)
 
 pub slot_after-below-requires : goal.slot_after-below-requires
 slot_after-below-requires c =
+    let e = (goal.at.slot_after-below-requires c).Else-done-r in
     let p = c.requires.sizes in
-    (p.2.source_from, p.2.source_to, p.0, inside (goal.at.slot_after-below-requires c).Else-done-r, omega (arith, p.2.spacing))
+    (p.2.source_from, p.2.source_to, p.0, inside e, omega (arith, p.2.spacing))
 
 pub split_line-requires : goal.split_line-requires
-split_line-requires c = record { run = ring_runs (given (goal.at.split_line-requires c).Else-done-r) (level (goal.at.split_line-requires c).Else-done-r) (row (goal.at.split_line-requires c).Else-done-r) (source (goal.at.split_line-requires c).Else-done-r) c.slot_before-above.ensures.0 c.slot_after-below.ensures.0 (rows (goal.at.split_line-requires c).Else-done-r); n_in_bounds = ((narrow (goal.at.split_line-requires c).Else-done-r).0, (narrow (goal.at.split_line-requires c).Else-done-r).1) }
+split_line-requires c =
+    let e = (goal.at.split_line-requires c).Else-done-r in
+    record { run = ring_runs (given e) (level e) (row e) (source e) c.slot_before-above.ensures.0 c.slot_after-below.ensures.0 (rows e); n_in_bounds = ((narrow e).0, (narrow e).1) }
 
 -- ---- both lines along the columns
 module _ (c : goal.After-split_line) where
+  abbrev e₁ : goal.Else-done-r
+  e₁ = c.before.before.before.before.before.before.before.before
+
   abbrev low : List ℤ
   low = c.split_line.new.low
 
   abbrev high : List ℤ
   high = c.split_line.new.high
 
-  low_laid : low ≡ overwrite (c.before.before.before.before.before.before.before.before.before.before.before c.before.before.before.before.before.before.before.before).args.low.now (d c.before.before.before.before.before.before.before.before) (w c.before.before.before.before.before.before.before.before) (ring_line low_split (given c.before.before.before.before.before.before.before.before) (level c.before.before.before.before.before.before.before.before) (source c.before.before.before.before.before.before.before.before) (row c.before.before.before.before.before.before.before.before))
+  low_laid : low ≡ overwrite c.args.low.now (d e₁) (w e₁) (ring_line low_split (given e₁) (level e₁) (source e₁) (row e₁))
   low_laid =
-      line_laid (given c.before.before.before.before.before.before.before.before) (level c.before.before.before.before.before.before.before.before) (row c.before.before.before.before.before.before.before.before) (source c.before.before.before.before.before.before.before.before) c.slot_before-above.ensures.0 c.slot_after-below.ensures.0 low_split (c.before.before.before.before.before.before.before.before.before.before.before c.before.before.before.before.before.before.before.before).args.low.now c.split_line.ensures.low_after
+      line_laid (given e₁) (level e₁) (row e₁) (source e₁) c.slot_before-above.ensures.0 c.slot_after-below.ensures.0 low_split c.args.low.now c.split_line.ensures.low_after
 
-  high_laid : high ≡ overwrite (c.before.before.before.before.before.before.before.before.before.before.before c.before.before.before.before.before.before.before.before).args.high.now (d c.before.before.before.before.before.before.before.before) (w c.before.before.before.before.before.before.before.before) (ring_line high_split (given c.before.before.before.before.before.before.before.before) (level c.before.before.before.before.before.before.before.before) (source c.before.before.before.before.before.before.before.before) (row c.before.before.before.before.before.before.before.before))
+  high_laid : high ≡ overwrite c.args.high.now (d e₁) (w e₁) (ring_line high_split (given e₁) (level e₁) (source e₁) (row e₁))
   high_laid =
-      line_laid (given c.before.before.before.before.before.before.before.before) (level c.before.before.before.before.before.before.before.before) (row c.before.before.before.before.before.before.before.before) (source c.before.before.before.before.before.before.before.before) c.slot_before-above.ensures.0 c.slot_after-below.ensures.0 high_split (c.before.before.before.before.before.before.before.before.before.before.before c.before.before.before.before.before.before.before.before).args.high.now c.split_line.ensures.high_after
+      line_laid (given e₁) (level e₁) (row e₁) (source e₁) c.slot_before-above.ensures.0 c.slot_after-below.ensures.0 high_split c.args.high.now c.split_line.ensures.high_after
 
-  low_room : d c.before.before.before.before.before.before.before.before + w c.before.before.before.before.before.before.before.before + d c.before.before.before.before.before.before.before.before ≤ length low
-  low_room = omega (arith, c.split_line.auto.low, (rooms c.before.before.before.before.before.before.before.before).0)
+  low_room : d e₁ + w e₁ + d e₁ ≤ length low
+  low_room = omega (arith, c.split_line.auto.low, (rooms e₁).0)
 
-  high_room : d c.before.before.before.before.before.before.before.before + w c.before.before.before.before.before.before.before.before + d c.before.before.before.before.before.before.before.before ≤ length high
-  high_room = omega (arith, c.split_line.auto.high, (rooms c.before.before.before.before.before.before.before.before).1)
+  high_room : d e₁ + w e₁ + d e₁ ≤ length high
+  high_room = omega (arith, c.split_line.auto.high, (rooms e₁).1)
 
-  low_run : Run 134217728 low (d c.before.before.before.before.before.before.before.before) (w c.before.before.before.before.before.before.before.before)
-  low_run = line_run (limit c.before.before.before.before.before.before.before.before) (limit_distance c.before.before.before.before.before.before.before.before).sign (given c.before.before.before.before.before.before.before.before) (level c.before.before.before.before.before.before.before.before) (row c.before.before.before.before.before.before.before.before) (c.before.before.before.before.before.before.before.before.before.before.before c.before.before.before.before.before.before.before.before).requires.0.0.width_from (source c.before.before.before.before.before.before.before.before) (rows c.before.before.before.before.before.before.before.before) low_split four.0 (c.before.before.before.before.before.before.before.before.before.before.before c.before.before.before.before.before.before.before.before).args.low.now (narrow c.before.before.before.before.before.before.before.before).0 low_laid
+  low_run : Run 134217728 low (d e₁) (w e₁)
+  low_run = line_run (limit e₁) (limit_distance e₁).sign (given e₁) (level e₁) (row e₁) c.requires.sizes.0.width_from (source e₁) (rows e₁) low_split four.0 c.args.low.now (narrow e₁).0 low_laid
 
-  high_run : Run 134217728 high (d c.before.before.before.before.before.before.before.before) (w c.before.before.before.before.before.before.before.before)
-  high_run = line_run (limit c.before.before.before.before.before.before.before.before) (limit_distance c.before.before.before.before.before.before.before.before).sign (given c.before.before.before.before.before.before.before.before) (level c.before.before.before.before.before.before.before.before) (row c.before.before.before.before.before.before.before.before) (c.before.before.before.before.before.before.before.before.before.before.before c.before.before.before.before.before.before.before.before).requires.0.0.width_from (source c.before.before.before.before.before.before.before.before) (rows c.before.before.before.before.before.before.before.before) high_split four.1 (c.before.before.before.before.before.before.before.before.before.before.before c.before.before.before.before.before.before.before.before).args.high.now (narrow c.before.before.before.before.before.before.before.before).1 high_laid
+  high_run : Run 134217728 high (d e₁) (w e₁)
+  high_run = line_run (limit e₁) (limit_distance e₁).sign (given e₁) (level e₁) (row e₁) c.requires.sizes.0.width_from (source e₁) (rows e₁) high_split four.1 c.args.high.now (narrow e₁).1 high_laid
 
 pub pad_line-requires : goal.pad_line-requires
 pad_line-requires c =
+    let q = (goal.at.pad_line-requires c).After-split_line in
     let p = c.requires.sizes in
-    (p.0.width_from, p.0.width_to, omega (arith, p.2.spacing), low_room (goal.at.pad_line-requires c).After-split_line)
+    (p.0.width_from, p.0.width_to, omega (arith, p.2.spacing), low_room q)
 
 pub outer_line-requires : goal.outer_line-requires
 outer_line-requires c =
+    let q = (goal.at.outer_line-requires c).After-split_line in
     let one = c.requires.sizes.0.width_from in
-    (limit_distance (goal.at.outer_line-requires c).Else-done-r, triple_padded (d (goal.at.outer_line-requires c).Else-done-r) one (low (goal.at.outer_line-requires c).After-split_line) (low_room (goal.at.outer_line-requires c).After-split_line) c.pad_line.ensures (low_run (goal.at.outer_line-requires c).After-split_line), (narrow (goal.at.outer_line-requires c).Else-done-r).2)
+    (limit_distance (goal.at.outer_line-requires c).Else-done-r, triple_padded (d (goal.at.outer_line-requires c).Else-done-r) one (low q) (low_room q) c.pad_line.ensures (low_run q), (narrow (goal.at.outer_line-requires c).Else-done-r).2)
 
 pub pad_line-requires-2 : goal.pad_line-requires-2
 pad_line-requires-2 c =
+    let q = (goal.at.pad_line-requires-2 c).After-split_line in
     let p = c.requires.sizes in
-    (p.0.width_from, p.0.width_to, omega (arith, p.2.spacing), high_room (goal.at.pad_line-requires-2 c).After-split_line)
+    (p.0.width_from, p.0.width_to, omega (arith, p.2.spacing), high_room q)
 
 pub outer_lines-requires : goal.outer_lines-requires
 outer_lines-requires c =
+    let q = (goal.at.outer_lines-requires c).After-split_line in
     let one = c.requires.sizes.0.width_from in
-    (limit_distance (goal.at.outer_lines-requires c).Else-done-r, triple_padded (d (goal.at.outer_lines-requires c).Else-done-r) one (high (goal.at.outer_lines-requires c).After-split_line) (high_room (goal.at.outer_lines-requires c).After-split_line) c.pad_line-2.ensures (high_run (goal.at.outer_lines-requires c).After-split_line), (narrow (goal.at.outer_lines-requires c).Else-done-r).3, (narrow (goal.at.outer_lines-requires c).Else-done-r).4)
+    (limit_distance (goal.at.outer_lines-requires c).Else-done-r, triple_padded (d (goal.at.outer_lines-requires c).Else-done-r) one (high q) (high_room q) c.pad_line-2.ensures (high_run q), (narrow (goal.at.outer_lines-requires c).Else-done-r).3, (narrow (goal.at.outer_lines-requires c).Else-done-r).4)
 
 -- ---- what lies outside along them
 module _ (c : goal.After-outer_lines) where
+  abbrev h₂ : goal.After-pad_line-2
+  h₂ = c.before.before.before.before
+
+  abbrev o₂ : goal.After-outer_line
+  o₂ = c.before.before.before.before.before.before.before
+
+  abbrev q₂ : goal.After-split_line
+  q₂ = c.before.before.before.before.before.before.before.before.before.before.before.before.before.before
+
+  abbrev e₂ : goal.Else-done-r
+  e₂ = c.before.before.before.before.before.before.before.before.before.before.before.before.before.before.before.before.before.before.before.before.before.before
+
   abbrev parts : List ℤ
   parts = c.outer_line.new.out
 
@@ -176,47 +203,52 @@ module _ (c : goal.After-outer_lines) where
   abbrev plus : List ℤ
   plus = c.outer_lines.new.plus
 
-  parts_laid : parts ≡ overwrite (c.before.before.before.before.before.before.before.before.before.before.before.before.before.before.before.before.before.before.before.before.before.before.before.before.before c.before.before.before.before.before.before.before.before.before.before.before.before.before.before.before.before.before.before.before.before.before.before).args.parts.now (2 * d c.before.before.before.before.before.before.before.before.before.before.before.before.before.before.before.before.before.before.before.before.before.before) (w c.before.before.before.before.before.before.before.before.before.before.before.before.before.before.before.before.before.before.before.before.before.before) (outer_part high_split (limit c.before.before.before.before.before.before.before.before.before.before.before.before.before.before.before.before.before.before.before.before.before.before) (d c.before.before.before.before.before.before.before.before.before.before.before.before.before.before.before.before.before.before.before.before.before.before) (w c.before.before.before.before.before.before.before.before.before.before.before.before.before.before.before.before.before.before.before.before.before.before) (from_place (d c.before.before.before.before.before.before.before.before.before.before.before.before.before.before.before.before.before.before.before.before.before.before) (low c.before.before.before.before.before.before.before.before.before.before.before.before.before.before)))
-  parts_laid = outer_laid (d c.before.before.before.before.before.before.before.before.before.before.before.before.before.before.before.before.before.before.before.before.before.before) (c.before.before.before.before.before.before.before.before.before.before.before.before.before.before.before.before.before.before.before.before.before.before.before.before.before c.before.before.before.before.before.before.before.before.before.before.before.before.before.before.before.before.before.before.before.before.before.before).requires.0.0.width_from (low c.before.before.before.before.before.before.before.before.before.before.before.before.before.before) (low_room c.before.before.before.before.before.before.before.before.before.before.before.before.before.before) c.pad_line.ensures refl (c.before.before.before.before.before.before.before.before.before.before.before.before.before.before.before.before.before.before.before.before.before.before.before.before.before c.before.before.before.before.before.before.before.before.before.before.before.before.before.before.before.before.before.before.before.before.before.before).args.parts.now (2 * d c.before.before.before.before.before.before.before.before.before.before.before.before.before.before.before.before.before.before.before.before.before.before) c.outer_line.ensures
+  parts_laid : parts ≡ overwrite c.args.parts.now (2 * d e₂) (w e₂) (outer_part high_split (limit e₂) (d e₂) (w e₂) (from_place (d e₂) (low q₂)))
+  parts_laid = outer_laid (d e₂) c.requires.sizes.0.width_from (low q₂) (low_room q₂) c.pad_line.ensures refl c.args.parts.now (2 * d e₂) c.outer_line.ensures
 
-  minus_laid : minus ≡ overwrite (c.before.before.before.before.before.before.before.before.before.before.before.before.before.before.before.before.before.before.before.before.before.before.before.before.before c.before.before.before.before.before.before.before.before.before.before.before.before.before.before.before.before.before.before.before.before.before.before).args.minus.now (2 * d c.before.before.before.before.before.before.before.before.before.before.before.before.before.before.before.before.before.before.before.before.before.before) (w c.before.before.before.before.before.before.before.before.before.before.before.before.before.before.before.before.before.before.before.before.before.before) (λ k. outer_part high_split (limit c.before.before.before.before.before.before.before.before.before.before.before.before.before.before.before.before.before.before.before.before.before.before) (d c.before.before.before.before.before.before.before.before.before.before.before.before.before.before.before.before.before.before.before.before.before.before) (w c.before.before.before.before.before.before.before.before.before.before.before.before.before.before.before.before.before.before.before.before.before.before) (from_place (d c.before.before.before.before.before.before.before.before.before.before.before.before.before.before.before.before.before.before.before.before.before.before) (high c.before.before.before.before.before.before.before.before.before.before.before.before.before.before)) k -ℤ outer_part low_split (limit c.before.before.before.before.before.before.before.before.before.before.before.before.before.before.before.before.before.before.before.before.before.before) (d c.before.before.before.before.before.before.before.before.before.before.before.before.before.before.before.before.before.before.before.before.before.before) (w c.before.before.before.before.before.before.before.before.before.before.before.before.before.before.before.before.before.before.before.before.before.before) (from_place (d c.before.before.before.before.before.before.before.before.before.before.before.before.before.before.before.before.before.before.before.before.before.before) (high c.before.before.before.before.before.before.before.before.before.before.before.before.before.before)) k)
+  minus_laid : minus ≡ overwrite c.args.minus.now (2 * d e₂) (w e₂) (λ k. outer_part high_split (limit e₂) (d e₂) (w e₂) (from_place (d e₂) (high q₂)) k -ℤ outer_part low_split (limit e₂) (d e₂) (w e₂) (from_place (d e₂) (high q₂)) k)
   unfolding outer_minus
-  minus_laid = outers_laid (d c.before.before.before.before.before.before.before.before.before.before.before.before.before.before.before.before.before.before.before.before.before.before) (c.before.before.before.before.before.before.before.before.before.before.before.before.before.before.before.before.before.before.before.before.before.before.before.before.before c.before.before.before.before.before.before.before.before.before.before.before.before.before.before.before.before.before.before.before.before.before.before).requires.0.0.width_from (high c.before.before.before.before.before.before.before.before.before.before.before.before.before.before) (high_room c.before.before.before.before.before.before.before.before.before.before.before.before.before.before) c.pad_line-2.ensures ◌-ℤ◌ refl (c.before.before.before.before.before.before.before.before.before.before.before.before.before.before.before.before.before.before.before.before.before.before.before.before.before c.before.before.before.before.before.before.before.before.before.before.before.before.before.before.before.before.before.before.before.before.before.before).args.minus.now (2 * d c.before.before.before.before.before.before.before.before.before.before.before.before.before.before.before.before.before.before.before.before.before.before) c.outer_lines.ensures.minus_after
+  minus_laid = outers_laid (d e₂) c.requires.sizes.0.width_from (high q₂) (high_room q₂) c.pad_line-2.ensures ◌-ℤ◌ refl c.args.minus.now (2 * d e₂) c.outer_lines.ensures.minus_after
 
-  plus_laid : plus ≡ overwrite (c.before.before.before.before.before.before.before.before.before.before.before.before.before.before.before.before.before.before.before.before.before.before.before.before.before c.before.before.before.before.before.before.before.before.before.before.before.before.before.before.before.before.before.before.before.before.before.before).args.plus.now (2 * d c.before.before.before.before.before.before.before.before.before.before.before.before.before.before.before.before.before.before.before.before.before.before) (w c.before.before.before.before.before.before.before.before.before.before.before.before.before.before.before.before.before.before.before.before.before.before) (λ k. outer_part high_split (limit c.before.before.before.before.before.before.before.before.before.before.before.before.before.before.before.before.before.before.before.before.before.before) (d c.before.before.before.before.before.before.before.before.before.before.before.before.before.before.before.before.before.before.before.before.before.before) (w c.before.before.before.before.before.before.before.before.before.before.before.before.before.before.before.before.before.before.before.before.before.before) (from_place (d c.before.before.before.before.before.before.before.before.before.before.before.before.before.before.before.before.before.before.before.before.before.before) (high c.before.before.before.before.before.before.before.before.before.before.before.before.before.before)) k +ℤ outer_part low_split (limit c.before.before.before.before.before.before.before.before.before.before.before.before.before.before.before.before.before.before.before.before.before.before) (d c.before.before.before.before.before.before.before.before.before.before.before.before.before.before.before.before.before.before.before.before.before.before) (w c.before.before.before.before.before.before.before.before.before.before.before.before.before.before.before.before.before.before.before.before.before.before) (from_place (d c.before.before.before.before.before.before.before.before.before.before.before.before.before.before.before.before.before.before.before.before.before.before) (high c.before.before.before.before.before.before.before.before.before.before.before.before.before.before)) k)
+  plus_laid : plus ≡ overwrite c.args.plus.now (2 * d e₂) (w e₂) (λ k. outer_part high_split (limit e₂) (d e₂) (w e₂) (from_place (d e₂) (high q₂)) k +ℤ outer_part low_split (limit e₂) (d e₂) (w e₂) (from_place (d e₂) (high q₂)) k)
   unfolding outer_plus
-  plus_laid = outers_laid (d c.before.before.before.before.before.before.before.before.before.before.before.before.before.before.before.before.before.before.before.before.before.before) (c.before.before.before.before.before.before.before.before.before.before.before.before.before.before.before.before.before.before.before.before.before.before.before.before.before c.before.before.before.before.before.before.before.before.before.before.before.before.before.before.before.before.before.before.before.before.before.before).requires.0.0.width_from (high c.before.before.before.before.before.before.before.before.before.before.before.before.before.before) (high_room c.before.before.before.before.before.before.before.before.before.before.before.before.before.before) c.pad_line-2.ensures ◌+ℤ◌ refl (c.before.before.before.before.before.before.before.before.before.before.before.before.before.before.before.before.before.before.before.before.before.before.before.before.before c.before.before.before.before.before.before.before.before.before.before.before.before.before.before.before.before.before.before.before.before.before.before).args.plus.now (2 * d c.before.before.before.before.before.before.before.before.before.before.before.before.before.before.before.before.before.before.before.before.before.before) c.outer_lines.ensures.plus_after
+  plus_laid = outers_laid (d e₂) c.requires.sizes.0.width_from (high q₂) (high_room q₂) c.pad_line-2.ensures ◌+ℤ◌ refl c.args.plus.now (2 * d e₂) c.outer_lines.ensures.plus_after
 
-  wide : (2 * d c.before.before.before.before.before.before.before.before.before.before.before.before.before.before.before.before.before.before.before.before.before.before + w c.before.before.before.before.before.before.before.before.before.before.before.before.before.before.before.before.before.before.before.before.before.before + 2 * d c.before.before.before.before.before.before.before.before.before.before.before.before.before.before.before.before.before.before.before.before.before.before ≤ length parts) × (2 * d c.before.before.before.before.before.before.before.before.before.before.before.before.before.before.before.before.before.before.before.before.before.before + w c.before.before.before.before.before.before.before.before.before.before.before.before.before.before.before.before.before.before.before.before.before.before + 2 * d c.before.before.before.before.before.before.before.before.before.before.before.before.before.before.before.before.before.before.before.before.before.before ≤ length minus) × (2 * d c.before.before.before.before.before.before.before.before.before.before.before.before.before.before.before.before.before.before.before.before.before.before + w c.before.before.before.before.before.before.before.before.before.before.before.before.before.before.before.before.before.before.before.before.before.before + 2 * d c.before.before.before.before.before.before.before.before.before.before.before.before.before.before.before.before.before.before.before.before.before.before ≤ length plus)
-  wide = (omega (arith, c.outer_line.auto.out, (rooms c.before.before.before.before.before.before.before.before.before.before.before.before.before.before.before.before.before.before.before.before.before.before).2), omega (arith, c.outer_lines.auto.minus, (rooms c.before.before.before.before.before.before.before.before.before.before.before.before.before.before.before.before.before.before.before.before.before.before).3), omega (arith, c.outer_lines.auto.plus, (rooms c.before.before.before.before.before.before.before.before.before.before.before.before.before.before.before.before.before.before.before.before.before.before).4))
+  wide : (2 * d e₂ + w e₂ + 2 * d e₂ ≤ length parts) × (2 * d e₂ + w e₂ + 2 * d e₂ ≤ length minus) × (2 * d e₂ + w e₂ + 2 * d e₂ ≤ length plus)
+  wide = (omega (arith, c.outer_line.auto.out, (rooms e₂).2), omega (arith, c.outer_lines.auto.minus, (rooms e₂).3), omega (arith, c.outer_lines.auto.plus, (rooms e₂).4))
 
-  runs : Run 67108864 parts (2 * d c.before.before.before.before.before.before.before.before.before.before.before.before.before.before.before.before.before.before.before.before.before.before) (w c.before.before.before.before.before.before.before.before.before.before.before.before.before.before.before.before.before.before.before.before.before.before) × Run 67108864 minus (2 * d c.before.before.before.before.before.before.before.before.before.before.before.before.before.before.before.before.before.before.before.before.before.before) (w c.before.before.before.before.before.before.before.before.before.before.before.before.before.before.before.before.before.before.before.before.before.before) × Run 67108864 plus (2 * d c.before.before.before.before.before.before.before.before.before.before.before.before.before.before.before.before.before.before.before.before.before.before) (w c.before.before.before.before.before.before.before.before.before.before.before.before.before.before.before.before.before.before.before.before.before.before)
+  runs : Run 67108864 parts (2 * d e₂) (w e₂) × Run 67108864 minus (2 * d e₂) (w e₂) × Run 67108864 plus (2 * d e₂) (w e₂)
   runs =
-      let a = (c.before.before.before.before.before.before.before.before.before.before.before.before.before.before.before.before.before.before.before.before.before.before.before.before.before c.before.before.before.before.before.before.before.before.before.before.before.before.before.before.before.before.before.before.before.before.before.before).args in
-      let n = narrow c.before.before.before.before.before.before.before.before.before.before.before.before.before.before.before.before.before.before.before.before.before.before in
-      outer_runs (limit c.before.before.before.before.before.before.before.before.before.before.before.before.before.before.before.before.before.before.before.before.before.before) (limit_distance c.before.before.before.before.before.before.before.before.before.before.before.before.before.before.before.before.before.before.before.before.before.before).sign (given c.before.before.before.before.before.before.before.before.before.before.before.before.before.before.before.before.before.before.before.before.before.before) (level c.before.before.before.before.before.before.before.before.before.before.before.before.before.before.before.before.before.before.before.before.before.before) (row c.before.before.before.before.before.before.before.before.before.before.before.before.before.before.before.before.before.before.before.before.before.before) (c.before.before.before.before.before.before.before.before.before.before.before.before.before.before.before.before.before.before.before.before.before.before.before.before.before c.before.before.before.before.before.before.before.before.before.before.before.before.before.before.before.before.before.before.before.before.before.before).requires.0.0.width_from (source c.before.before.before.before.before.before.before.before.before.before.before.before.before.before.before.before.before.before.before.before.before.before) (rows c.before.before.before.before.before.before.before.before.before.before.before.before.before.before.before.before.before.before.before.before.before.before) a.low.now a.high.now n.0 n.1 (low_laid c.before.before.before.before.before.before.before.before.before.before.before.before.before.before) (high_laid c.before.before.before.before.before.before.before.before.before.before.before.before.before.before) a.parts.now a.minus.now a.plus.now n.2 n.3 n.4 parts_laid minus_laid plus_laid
+      let a = c.args in
+      let n = narrow e₂ in
+      outer_runs (limit e₂) (limit_distance e₂).sign (given e₂) (level e₂) (row e₂) c.requires.sizes.0.width_from (source e₂) (rows e₂) a.low.now a.high.now n.0 n.1 (low_laid q₂) (high_laid q₂) a.parts.now a.minus.now a.plus.now n.2 n.3 n.4 parts_laid minus_laid plus_laid
 
 pub pad_line-requires-3 : goal.pad_line-requires-3
 pad_line-requires-3 c =
+    let o = (goal.at.pad_line-requires-3 c).After-outer_lines in
     let p = c.requires.sizes in
-    (p.0.width_from, p.0.width_to, omega (arith, p.2.spacing), (wide (goal.at.pad_line-requires-3 c).After-outer_lines).0)
+    (p.0.width_from, p.0.width_to, omega (arith, p.2.spacing), (wide o).0)
 
 pub pad_line-requires-4 : goal.pad_line-requires-4
 pad_line-requires-4 c =
+    let o = (goal.at.pad_line-requires-4 c).After-outer_lines in
     let p = c.requires.sizes in
-    (p.0.width_from, p.0.width_to, omega (arith, p.2.spacing), (wide (goal.at.pad_line-requires-4 c).After-outer_lines).1)
+    (p.0.width_from, p.0.width_to, omega (arith, p.2.spacing), (wide o).1)
 
 pub pad_line-requires-5 : goal.pad_line-requires-5
 pad_line-requires-5 c =
+    let o = (goal.at.pad_line-requires-5 c).After-outer_lines in
     let p = c.requires.sizes in
-    (p.0.width_from, p.0.width_to, omega (arith, p.2.spacing), (wide (goal.at.pad_line-requires-5 c).After-outer_lines).2)
+    (p.0.width_from, p.0.width_to, omega (arith, p.2.spacing), (wide o).2)
 
 pub join_parts-requires : goal.join_parts-requires
 join_parts-requires c =
+    let o = (goal.at.join_parts-requires c).After-outer_lines in
+    let e = (goal.at.join_parts-requires c).Else-done-r in
     let one = c.requires.sizes.0.width_from in
-    let own = crossing_padded (d (goal.at.join_parts-requires c).Else-done-r) one refl (parts (goal.at.join_parts-requires c).After-outer_lines) (parts (goal.at.join_parts-requires c).After-outer_lines) (wide (goal.at.join_parts-requires c).After-outer_lines).0 (wide (goal.at.join_parts-requires c).After-outer_lines).0 c.pad_line-3.ensures c.pad_line-3.ensures (runs (goal.at.join_parts-requires c).After-outer_lines).0 (runs (goal.at.join_parts-requires c).After-outer_lines).0 in
-    let crossed = crossing_padded (d (goal.at.join_parts-requires c).Else-done-r) one refl (minus (goal.at.join_parts-requires c).After-outer_lines) (plus (goal.at.join_parts-requires c).After-outer_lines) (wide (goal.at.join_parts-requires c).After-outer_lines).1 (wide (goal.at.join_parts-requires c).After-outer_lines).2 c.pad_line-4.ensures c.pad_line-5.ensures (runs (goal.at.join_parts-requires c).After-outer_lines).1 (runs (goal.at.join_parts-requires c).After-outer_lines).2 in
-    let place = slot_room (level (goal.at.join_parts-requires c).Else-done-r).slots (w (goal.at.join_parts-requires c).Else-done-r) (row (goal.at.join_parts-requires c).Else-done-r) c.requires.sizes.2.slots_from in
+    let own = crossing_padded (d e) one refl (parts o) (parts o) (wide o).0 (wide o).0 c.pad_line-3.ensures c.pad_line-3.ensures (runs o).0 (runs o).0 in
+    let crossed = crossing_padded (d e) one refl (minus o) (plus o) (wide o).1 (wide o).2 c.pad_line-4.ensures c.pad_line-5.ensures (runs o).1 (runs o).2 in
+    let place = slot_room (level e).slots (w e) (row e) c.requires.sizes.2.slots_from in
     record { crossing = (own, crossed); d_bound = (c.requires.sizes.2.spacing, omega (arith, place, c.requires.width_in_bounds_2.0), omega (arith, place, c.requires.width_in_bounds_2.1)) }
 
 pub shape_of-low : goal.shape_of-low
@@ -243,17 +275,19 @@ shape_of-together c = c.join_parts.auto.together
 pub returns : goal.returns
 unfolding joined_apart joined_together
 returns c =
+    let o = (goal.at.returns c).After-outer_lines in
+    let e = (goal.at.returns c).Else-done-r in
     let a = c.args in
     let one = c.requires.sizes.0.width_from in
-    let n = narrow (goal.at.returns c).Else-done-r in
-    let at = slot (level (goal.at.returns c).Else-done-r).slots (w (goal.at.returns c).Else-done-r) (row (goal.at.returns c).Else-done-r) in
-    let apart = joined_laid ◌-ℤ◌ (d (goal.at.returns c).Else-done-r) one refl (parts (goal.at.returns c).After-outer_lines) (minus (goal.at.returns c).After-outer_lines) (plus (goal.at.returns c).After-outer_lines) (wide (goal.at.returns c).After-outer_lines).0 (wide (goal.at.returns c).After-outer_lines).1 (wide (goal.at.returns c).After-outer_lines).2 c.pad_line-3.ensures c.pad_line-4.ensures c.pad_line-5.ensures a.apart.now at c.join_parts.ensures.apart_after in
-    let together = joined_laid ◌+ℤ◌ (d (goal.at.returns c).Else-done-r) one refl (parts (goal.at.returns c).After-outer_lines) (minus (goal.at.returns c).After-outer_lines) (plus (goal.at.returns c).After-outer_lines) (wide (goal.at.returns c).After-outer_lines).0 (wide (goal.at.returns c).After-outer_lines).1 (wide (goal.at.returns c).After-outer_lines).2 c.pad_line-3.ensures c.pad_line-4.ensures c.pad_line-5.ensures a.together.now at c.join_parts.ensures.together_after in
-    let laid = both_laid (limit (goal.at.returns c).Else-done-r) (limit_distance (goal.at.returns c).Else-done-r).sign (given (goal.at.returns c).Else-done-r) (level (goal.at.returns c).Else-done-r) (row (goal.at.returns c).Else-done-r) one (source (goal.at.returns c).Else-done-r) (rows (goal.at.returns c).Else-done-r) a.low.now a.high.now n.0 n.1 (low_laid (goal.at.returns c).After-split_line) (high_laid (goal.at.returns c).After-split_line) a.parts.now a.minus.now a.plus.now n.2 n.3 n.4 (parts_laid (goal.at.returns c).After-outer_lines) (minus_laid (goal.at.returns c).After-outer_lines) (plus_laid (goal.at.returns c).After-outer_lines) a.apart.now a.together.now at apart together in
-    let low_line = ring_line low_split (given (goal.at.returns c).Else-done-r) (level (goal.at.returns c).Else-done-r) (source (goal.at.returns c).Else-done-r) (row (goal.at.returns c).Else-done-r) in
-    let high_line = ring_line high_split (given (goal.at.returns c).Else-done-r) (level (goal.at.returns c).Else-done-r) (source (goal.at.returns c).Else-done-r) (row (goal.at.returns c).Else-done-r) in
+    let n = narrow e in
+    let at = slot (level e).slots (w e) (row e) in
+    let apart = joined_laid ◌-ℤ◌ (d e) one refl (parts o) (minus o) (plus o) (wide o).0 (wide o).1 (wide o).2 c.pad_line-3.ensures c.pad_line-4.ensures c.pad_line-5.ensures a.apart.now at c.join_parts.ensures.apart_after in
+    let together = joined_laid ◌+ℤ◌ (d e) one refl (parts o) (minus o) (plus o) (wide o).0 (wide o).1 (wide o).2 c.pad_line-3.ensures c.pad_line-4.ensures c.pad_line-5.ensures a.together.now at c.join_parts.ensures.together_after in
+    let laid = both_laid (limit e) (limit_distance e).sign (given e) (level e) (row e) one (source e) (rows e) a.low.now a.high.now n.0 n.1 (low_laid (goal.at.returns c).After-split_line) (high_laid (goal.at.returns c).After-split_line) a.parts.now a.minus.now a.plus.now n.2 n.3 n.4 (parts_laid o) (minus_laid o) (plus_laid o) a.apart.now a.together.now at apart together in
+    let low_line = ring_line low_split (given e) (level e) (source e) (row e) in
+    let high_line = ring_line high_split (given e) (level e) (source e) (row e) in
     let f = c.done-r.ensures in
     let g = c.done.ensures in
-    record { apart_after = ring_worked (level (goal.at.returns c).Else-done-r).lag (given (goal.at.returns c).Else-done-r) a.t f g (level (goal.at.returns c).Else-done-r).slots (more (goal.at.returns c).Else-done-r) a.apart.now (ring_apart (given (goal.at.returns c).Else-done-r) (level (goal.at.returns c).Else-done-r) (source (goal.at.returns c).Else-done-r))
-          (laid.0 ∙ (λ i. overwrite a.apart.now at (w (goal.at.returns c).Else-done-r) (apart_row (limit_is (goal.at.returns c).Else-done-r i) (d (goal.at.returns c).Else-done-r) (w (goal.at.returns c).Else-done-r) low_line high_line))); together_after = ring_worked (level (goal.at.returns c).Else-done-r).lag (given (goal.at.returns c).Else-done-r) a.t f g (level (goal.at.returns c).Else-done-r).slots (more (goal.at.returns c).Else-done-r) a.together.now (ring_together (given (goal.at.returns c).Else-done-r) (level (goal.at.returns c).Else-done-r) (source (goal.at.returns c).Else-done-r))
-          (laid.1 ∙ (λ i. overwrite a.together.now at (w (goal.at.returns c).Else-done-r) (together_row (limit_is (goal.at.returns c).Else-done-r i) (d (goal.at.returns c).Else-done-r) (w (goal.at.returns c).Else-done-r) low_line high_line))) }
+    record { apart_after = ring_worked (level e).lag (given e) a.t f g (level e).slots (more e) a.apart.now (ring_apart (given e) (level e) (source e))
+          (laid.0 ∙ (λ i. overwrite a.apart.now at (w e) (apart_row (limit_is e i) (d e) (w e) low_line high_line))); together_after = ring_worked (level e).lag (given e) a.t f g (level e).slots (more e) a.together.now (ring_together (given e) (level e) (source e))
+          (laid.1 ∙ (λ i. overwrite a.together.now at (w e) (together_row (limit_is e i) (d e) (w e) low_line high_line))) }

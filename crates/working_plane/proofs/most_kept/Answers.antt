@@ -1,0 +1,22 @@
+-- `working_plane::most_kept` meets its contract: twice a 16-bit number fits.
+use mathlib.Core.Path.{◌∙◌, ap}
+use Prim.Native.Nat.{◌≤◌}
+use native.Mathlib.Omega.{arith}
+use lib.IntN.{ℤ, pos, nat_abs, ◌*ℤ◌}
+use mir.Syntax.{w32}
+use mir.Val.{to_z, of_z}
+use mir.Facts.{to_z-of_z as back}
+use Rattle.integers.proofs.Bounds.{read_is, read_bound, bounds, fits}
+use Rattle.working_plane.specs.Rounds.{most_kept}
+use Rattle.working_plane.proofs.most_kept.Goals as goal
+use Rattle.working_plane.proofs.most_kept.Goals.{After-widened}
+
+small : (c : goal.After-widened) → nat_abs (to_z w32 (of_z w32 c.widened.result)) ≤ 65535
+small c = read_bound w32 c.widened.ensures (omega arith)
+
+pub overflow_mul-result : goal.overflow_mul-result
+overflow_mul-result c = let b = small c in fits (search bounds depth 14) tt
+
+pub returns : goal.returns
+unfolding most_kept
+returns c = back (overflow_mul-result c) ∙ ap (λ (z : ℤ). pos 2 *ℤ z) (read_is w32 c.widened.type_inv c.widened.ensures)
