@@ -9,7 +9,7 @@ use Rattle.one_level.proofs.rewrite.Goals.{After-load, Start}
 
 -- the plane's samples have 16 bits
 plane_small : (l : goal.After-load) (k : ℕ) → get_or l.args.plane.now k 0 ≤ 65535
-plane_small l k = omega (arith, l.type_inv.SLICE k)
+plane_small l k = omega (arith, l.slice_known-1.given k)
 
 room : (s : goal.Start) → s.args.colour.width * s.args.colour.height ≤ length s.args.work.now
 room s = omega (arith, s.requires.0.work)

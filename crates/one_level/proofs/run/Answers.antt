@@ -38,7 +38,7 @@ workable l = let a = l.args in subst (Workable a.colour.width a.colour.height a.
 plane-kept : (l : goal.At-loop-n) → let a = l.args in KeptPlane l.loop-n.work (a.colour.width * a.colour.height)
 plane-kept l =
     let a = l.args in
-    after_kept false a.colour a.top a.mosaic.now a.green.now a.work.now (room l.before.before.before.before.before.before.before) l.loop-n.n l.loop-n.invariant.1 l.requires.3 (omega arith) (λ k. omega (arith, l.type_inv.SLICE k))
+    after_kept false a.colour a.top a.mosaic.now a.green.now a.work.now (room l.before.before.before.before.before.before.before) l.loop-n.n l.loop-n.invariant.1 l.requires.3 (omega arith) (λ k. omega (arith, l.type_inv.mosaic k))
 
 -- the ends of what is kept, as the machine reads them
 ends_are : (l : goal.At-loop-n)
@@ -56,7 +56,7 @@ project-requires c =
     let l = (goal.at.project-requires c).At-loop-n in
     let a = c.args in
     let e = ends_small l in (
-      colour_projectable a.colour a.mosaic.now a.green.now c.loop-n.work c.given_of-given.ensures (omega (arith, c.well-formed.0)) (workable l) (plane-kept l) (λ k. omega (arith, c.type_inv.SLICE k)),
+      colour_projectable a.colour a.mosaic.now a.green.now c.loop-n.work c.given_of-given.ensures (omega (arith, c.well_formed.0)) (workable l) (plane-kept l) (λ k. omega (arith, c.type_inv.green k)),
       ends (search bounds depth 4) (search bounds depth 4) tt tt,
     )
 
