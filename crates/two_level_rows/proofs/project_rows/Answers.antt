@@ -59,6 +59,25 @@ module _ (s : goal.Start) where
   first_is : first_read ≡ first_level g
   first_is = λ j. record { spacing = 1; limit = back (fits_abs w32 g.limit (omega (arith, projectable.limit.small))) j; source = 3; slots = 7; lag = 1 }
 
+-- where the function starts, from each place
+abbrev step_from : goal.At-loop-t → goal.Start
+step_from l = l.before.before.before.before.before
+
+abbrev difference_from : goal.After-difference_stage → goal.Start
+difference_from d = d.before.before.before.before.before.before.before.before
+
+abbrev parts_from : goal.After-parts_stage → goal.Start
+parts_from q = q.before.before.before.before.before.before.before.before.before.before.before.before.before.before.before.before.before
+
+abbrev band_from : goal.After-band_stage → goal.Start
+band_from n = n.before.before.before.before.before.before.before.before.before.before.before.before.before.before.before.before.before.before.before.before.before.before.before.before.before.before
+
+abbrev second_from : goal.After-parts_stage-in-loop-t → goal.Start
+second_from u = u.before.before.before.before.before.before.before.before.before.before.before.before.before.before.before.before.before.before.before.before.before.before.before.before.before.before.before.before.before.before.before.before.before.before.before
+
+abbrev merged_from : goal.After-merged_stage → goal.Start
+merged_from w = w.before.before.before.before.before.before.before.before.before.before.before.before.before.before.before.before.before.before.before.before.before.before.before.before.before.before.before.before.before.before.before.before.before.before.before.before.before.before.before.before.before.before.before.before.before.before.before.before
+
 pub overflow_add-steps : goal.overflow_add-steps
 overflow_add-steps c = omega (arith, (projectable (goal.at.overflow_add-steps c).Start).sizes.height_to)
 
@@ -71,7 +90,7 @@ loop-t-init c =
 -- ---- a step
 -- it is not too far down
 step : (l : goal.At-loop-t) → l.loop-t.t ≤ 4096
-step l = omega (arith, l.loop-t.invariant.0, (projectable l.before.before.before.before.before).sizes.height_to)
+step l = omega (arith, l.loop-t.invariant.0, (projectable (step_from l)).sizes.height_to)
 
 pub difference_stage-requires : goal.difference_stage-requires
 difference_stage-requires c =
@@ -83,7 +102,7 @@ difference_stage-requires c =
 -- the ring of differences after its stage
 module _ (d : goal.After-difference_stage) where
   abbrev s : goal.Start
-  s = d.before.before.before.before.before.before.before.before
+  s = difference_from d
 
   abbrev ring : List ℤ
   ring = d.difference_stage.new.ring
@@ -112,8 +131,11 @@ parts_stage-requires c =
 
 -- the first level's rings after its stage, and its line
 module _ (q : goal.After-parts_stage) where
-  abbrev d : goal.After-difference_stage
-  d = q.before.before.before.before.before.before.before.before.before.before
+  abbrev f : goal.Start
+  f = parts_from q
+
+  abbrev ring_then : List ℤ
+  ring_then = q.difference_stage.new.ring
 
   abbrev t : ℕ
   t = q.loop-t.t
@@ -133,20 +155,20 @@ module _ (q : goal.After-parts_stage) where
   togethers1_kept : length togethers1 ≡ length q.args.together1.now
   togethers1_kept = q.parts_stage.auto.together ∙ q.loop-t.invariant.6
 
-  aparts1_held : Held (g q.before.before.before.before.before.before.before.before.before.before.before.before.before.before.before.before.before) 7 1 aparts1 (of q.before.before.before.before.before.before.before.before.before.before.before.before.before.before.before.before.before A1) (t + 1)
-  aparts1_held =
+  aparts1_held : Held (g f) 3 0 ring_then (of f D) (t + 1) → Held (g f) 7 1 aparts1 (of f A1) (t + 1)
+  aparts1_held held =
       let v = q.loop-t.invariant in
-      apart1_next (g q.before.before.before.before.before.before.before.before.before.before.before.before.before.before.before.before.before) (second q.before.before.before.before.before.before.before.before.before.before.before.before.before.before.before.before.before) (least q.before.before.before.before.before.before.before.before.before.before.before.before.before.before.before.before.before) (most q.before.before.before.before.before.before.before.before.before.before.before.before.before.before.before.before.before) q.args.own.now q.args.guide.now (projectable q.before.before.before.before.before.before.before.before.before.before.before.before.before.before.before.before.before) (distance q.before.before.before.before.before.before.before.before.before.before.before.before.before.before.before.before.before) t (ring_held d) q.loop-t.apart1 (as_long v.5 q.requires.width_in_bounds.2) v.1.aparts1
-      (subst (λ (x : Level). aparts1 ≡ ring_row_laid 7 1 (g q.before.before.before.before.before.before.before.before.before.before.before.before.before.before.before.before.before) t q.loop-t.apart1 (ring_apart (g q.before.before.before.before.before.before.before.before.before.before.before.before.before.before.before.before.before) x (ring d))) (first_is q.before.before.before.before.before.before.before.before.before.before.before.before.before.before.before.before.before) q.parts_stage.ensures.apart_after)
+      apart1_next (g f) (second f) (least f) (most f) q.args.own.now q.args.guide.now (projectable f) (distance f) t held q.loop-t.apart1 (as_long v.5 q.requires.width_in_bounds.2) v.1.aparts1
+      (subst (λ (x : Level). aparts1 ≡ ring_row_laid 7 1 (g f) t q.loop-t.apart1 (ring_apart (g f) x ring_then)) (first_is f) q.parts_stage.ensures.apart_after)
 
-  togethers1_held : Held (g q.before.before.before.before.before.before.before.before.before.before.before.before.before.before.before.before.before) 7 1 togethers1 (of q.before.before.before.before.before.before.before.before.before.before.before.before.before.before.before.before.before B1) (t + 1)
-  togethers1_held =
+  togethers1_held : Held (g f) 3 0 ring_then (of f D) (t + 1) → Held (g f) 7 1 togethers1 (of f B1) (t + 1)
+  togethers1_held held =
       let v = q.loop-t.invariant in
-      together1_next (g q.before.before.before.before.before.before.before.before.before.before.before.before.before.before.before.before.before) (second q.before.before.before.before.before.before.before.before.before.before.before.before.before.before.before.before.before) (least q.before.before.before.before.before.before.before.before.before.before.before.before.before.before.before.before.before) (most q.before.before.before.before.before.before.before.before.before.before.before.before.before.before.before.before.before) q.args.own.now q.args.guide.now (projectable q.before.before.before.before.before.before.before.before.before.before.before.before.before.before.before.before.before) (distance q.before.before.before.before.before.before.before.before.before.before.before.before.before.before.before.before.before) t (ring_held d) q.loop-t.together1 (as_long v.6 q.requires.width_in_bounds.3) v.1.togethers1
-      (subst (λ (x : Level). togethers1 ≡ ring_row_laid 7 1 (g q.before.before.before.before.before.before.before.before.before.before.before.before.before.before.before.before.before) t q.loop-t.together1 (ring_together (g q.before.before.before.before.before.before.before.before.before.before.before.before.before.before.before.before.before) x (ring d))) (first_is q.before.before.before.before.before.before.before.before.before.before.before.before.before.before.before.before.before) q.parts_stage.ensures.together_after)
+      together1_next (g f) (second f) (least f) (most f) q.args.own.now q.args.guide.now (projectable f) (distance f) t held q.loop-t.together1 (as_long v.6 q.requires.width_in_bounds.3) v.1.togethers1
+      (subst (λ (x : Level). togethers1 ≡ ring_row_laid 7 1 (g f) t q.loop-t.together1 (ring_together (g f) x ring_then)) (first_is f) q.parts_stage.ensures.together_after)
 
-  line_is : Working 1 (g q.before.before.before.before.before.before.before.before.before.before.before.before.before.before.before.before.before).height t → line ≡ padded (g q.before.before.before.before.before.before.before.before.before.before.before.before.before.before.before.before.before).width 1 (overwrite q.loop-t.low 1 (g q.before.before.before.before.before.before.before.before.before.before.before.before.before.before.before.before.before).width (ring_line low_split (g q.before.before.before.before.before.before.before.before.before.before.before.before.before.before.before.before.before) (first_level (g q.before.before.before.before.before.before.before.before.before.before.before.before.before.before.before.before.before)) (ring d) (reached 1 (g q.before.before.before.before.before.before.before.before.before.before.before.before.before.before.before.before.before).height t)))
-  line_is i = subst (λ (x : Level). line ≡ padded (g q.before.before.before.before.before.before.before.before.before.before.before.before.before.before.before.before.before).width 1 (overwrite q.loop-t.low 1 (g q.before.before.before.before.before.before.before.before.before.before.before.before.before.before.before.before.before).width (ring_line low_split (g q.before.before.before.before.before.before.before.before.before.before.before.before.before.before.before.before.before) x (ring d) (reached 1 (g q.before.before.before.before.before.before.before.before.before.before.before.before.before.before.before.before.before).height t)))) (first_is q.before.before.before.before.before.before.before.before.before.before.before.before.before.before.before.before.before) (q.parts_stage.ensures.low_after i)
+  line_is : Working 1 (g f).height t → line ≡ padded (g f).width 1 (overwrite q.loop-t.low 1 (g f).width (ring_line low_split (g f) (first_level (g f)) ring_then (reached 1 (g f).height t)))
+  line_is i = subst (λ (x : Level). line ≡ padded (g f).width 1 (overwrite q.loop-t.low 1 (g f).width (ring_line low_split (g f) x ring_then (reached 1 (g f).height t)))) (first_is f) (q.parts_stage.ensures.low_after i)
 
 pub band_stage-requires : goal.band_stage-requires
 band_stage-requires c =
@@ -158,25 +180,24 @@ band_stage-requires c =
 
 -- the ring of band 1 after its stage
 module _ (n : goal.After-band_stage) where
-  abbrev q : goal.After-parts_stage
-  q = n.before.before.before.before.before.before.before.before.before.before
-
   abbrev b : goal.Start
-  b = n.before.before.before.before.before.before.before.before.before.before.before.before.before.before.before.before.before.before.before.before.before.before.before.before.before.before
+  b = band_from n
 
-  abbrev l : goal.At-loop-t
-  l = n.before.before.before.before.before.before.before.before.before.before.before.before.before.before.before.before.before.before.before.before.before.before
+  abbrev ring_still : List ℤ
+  ring_still = n.difference_stage.new.ring
 
   abbrev bands : List ℤ
   bands = n.band_stage.new.band
 
-  bands-kept : length bands ≡ length n.args.band.now
-  bands-kept = n.band_stage.auto.band ∙ n.loop-t.invariant.4
+  bands_kept : length bands ≡ length n.args.band.now
+  bands_kept = n.band_stage.auto.band ∙ n.loop-t.invariant.4
 
-  bands-held : Held (g b) 5 1 bands (of b Band) (n.loop-t.t + 1)
-  bands-held =
+  bands_held : Held (g b) 3 0 ring_still (of b D) (n.loop-t.t + 1) → length ring_still ≡ length n.args.differences.now
+      → (Working 1 (g b).height n.loop-t.t → n.parts_stage.new.low ≡ padded (g b).width 1 (overwrite n.loop-t.low 1 (g b).width (ring_line low_split (g b) (first_level (g b)) ring_still (reached 1 (g b).height n.loop-t.t))))
+      → Held (g b) 5 1 bands (of b Band) (n.loop-t.t + 1)
+  bands_held held kept line =
       let v = n.loop-t.invariant in
-      band_next (g b) (second b) (least b) (most b) n.args.own.now n.args.guide.now (projectable b) (distance b) n.loop-t.t (ring_held n.before.before.before.before.before.before.before.before.before.before.before.before.before.before.before.before.before.before.before) (as_long (ring_kept n.before.before.before.before.before.before.before.before.before.before.before.before.before.before.before.before.before.before.before) n.requires.width_in_bounds.0) n.loop-t.low (as_long v.12 n.requires.width_in_bounds_3.0) (line_is q)
+      band_next (g b) (second b) (least b) (most b) n.args.own.now n.args.guide.now (projectable b) (distance b) n.loop-t.t held (as_long kept n.requires.width_in_bounds.0) n.loop-t.low (as_long v.12 n.requires.width_in_bounds_3.0) line
       n.loop-t.band (as_long v.4 n.requires.width_in_bounds.1) v.1.bands n.band_stage.ensures
 
   -- the lines still have their lengths
@@ -197,19 +218,18 @@ module _ (n : goal.After-band_stage) where
 
 pub parts_stage-requires-in-loop-t : goal.parts_stage-requires-in-loop-t
 parts_stage-requires-in-loop-t c =
+    let d = (goal.at.parts_stage-requires-in-loop-t c).After-difference_stage in
+    let q = (goal.at.parts_stage-requires-in-loop-t c).After-parts_stage in
     let n = (goal.at.parts_stage-requires-in-loop-t c).After-band_stage in
     let x = (goal.at.parts_stage-requires-in-loop-t c).Start in
     let v = c.loop-t.invariant in
     let z = c.requires.width_in_bounds_3 in
-    record { sizes = ((projectable x).sizes, step (goal.at.parts_stage-requires-in-loop-t c).At-loop-t, second_sound (g x) (second x) (least x) (most x) c.args.own.now c.args.guide.now (projectable x) (distance x)); ring_rows = second_ready (g x) (second x) (least x) (most x) c.args.own.now c.args.guide.now (projectable x) (distance x) c.loop-t.t (bands-held n) (as_long (bands-kept n) c.requires.width_in_bounds.1); width_in_bounds = (as_long (low_kept n) z.0, as_long (high_kept n) z.1, as_long (parts_kept n) z.2, as_long (minus_kept n) z.3, as_long (plus_kept n) z.4); width_in_bounds_2 = (as_long v.7 c.requires.width_in_bounds.4, as_long v.8 c.requires.width_in_bounds.5) }
+    record { sizes = ((projectable x).sizes, step (goal.at.parts_stage-requires-in-loop-t c).At-loop-t, second_sound (g x) (second x) (least x) (most x) c.args.own.now c.args.guide.now (projectable x) (distance x)); ring_rows = second_ready (g x) (second x) (least x) (most x) c.args.own.now c.args.guide.now (projectable x) (distance x) c.loop-t.t (bands_held n (ring_held d) (ring_kept d) (line_is q)) (as_long (bands_kept n) c.requires.width_in_bounds.1); width_in_bounds = (as_long (low_kept n) z.0, as_long (high_kept n) z.1, as_long (parts_kept n) z.2, as_long (minus_kept n) z.3, as_long (plus_kept n) z.4); width_in_bounds_2 = (as_long v.7 c.requires.width_in_bounds.4, as_long v.8 c.requires.width_in_bounds.5) }
 
 -- the second level's rings after its stage
 module _ (u : goal.After-parts_stage-in-loop-t) where
-  abbrev n : goal.After-band_stage
-  n = u.before.before.before.before.before.before.before.before.before.before
-
   abbrev x : goal.Start
-  x = u.before.before.before.before.before.before.before.before.before.before.before.before.before.before.before.before.before.before.before.before.before.before.before.before.before.before.before.before.before.before.before.before.before.before.before
+  x = second_from u
 
   abbrev aparts2 : List ℤ
   aparts2 = u.parts_stage-in-loop-t.new.apart
@@ -223,34 +243,37 @@ module _ (u : goal.After-parts_stage-in-loop-t) where
   togethers2_kept : length togethers2 ≡ length u.args.together2.now
   togethers2_kept = u.parts_stage-in-loop-t.auto.together ∙ u.loop-t.invariant.8
 
-  aparts2_held : Held (g x) 9 3 aparts2 (of x A2) (u.loop-t.t + 1)
-  aparts2_held =
+  aparts2_held : Held (g x) 5 1 u.band_stage.new.band (of x Band) (u.loop-t.t + 1) → Held (g x) 9 3 aparts2 (of x A2) (u.loop-t.t + 1)
+  aparts2_held bands =
       let v = u.loop-t.invariant in
-      apart2_next (g x) (second x) (least x) (most x) u.args.own.now u.args.guide.now (projectable x) (distance x) u.loop-t.t (bands-held n) u.loop-t.apart2 (as_long v.7 u.requires.width_in_bounds.4) v.1.aparts2 u.parts_stage-in-loop-t.ensures.apart_after
+      apart2_next (g x) (second x) (least x) (most x) u.args.own.now u.args.guide.now (projectable x) (distance x) u.loop-t.t bands u.loop-t.apart2 (as_long v.7 u.requires.width_in_bounds.4) v.1.aparts2 u.parts_stage-in-loop-t.ensures.apart_after
 
-  togethers2_held : Held (g x) 9 3 togethers2 (of x B2) (u.loop-t.t + 1)
-  togethers2_held =
+  togethers2_held : Held (g x) 5 1 u.band_stage.new.band (of x Band) (u.loop-t.t + 1) → Held (g x) 9 3 togethers2 (of x B2) (u.loop-t.t + 1)
+  togethers2_held bands =
       let v = u.loop-t.invariant in
-      together2_next (g x) (second x) (least x) (most x) u.args.own.now u.args.guide.now (projectable x) (distance x) u.loop-t.t (bands-held n) u.loop-t.together2 (as_long v.8 u.requires.width_in_bounds.5) v.1.togethers2 u.parts_stage-in-loop-t.ensures.together_after
+      together2_next (g x) (second x) (least x) (most x) u.args.own.now u.args.guide.now (projectable x) (distance x) u.loop-t.t bands u.loop-t.together2 (as_long v.8 u.requires.width_in_bounds.5) v.1.togethers2 u.parts_stage-in-loop-t.ensures.together_after
 
 pub merged_stage-requires : goal.merged_stage-requires
 merged_stage-requires c =
+    let d = (goal.at.merged_stage-requires c).After-difference_stage in
+    let q = (goal.at.merged_stage-requires c).After-parts_stage in
+    let n = (goal.at.merged_stage-requires c).After-band_stage in
     let u = (goal.at.merged_stage-requires c).After-parts_stage-in-loop-t in
+    let held = ring_held d in
+    let a1 = aparts1_held q held in
+    let b1 = togethers1_held q held in
+    let bands = bands_held n held (ring_kept d) (line_is q) in
+    let a2 = aparts2_held u bands in
+    let b2 = togethers2_held u bands in
     let y = (goal.at.merged_stage-requires c).Start in
     let v = c.loop-t.invariant in
     let r = c.requires.width_in_bounds in
-    record { sizes = ((projectable y).sizes, step (goal.at.merged_stage-requires c).At-loop-t); crossing = merged_ready (g y) (second y) (least y) (most y) c.args.own.now c.args.guide.now (projectable y) (distance y) c.loop-t.t (aparts2_held u) (togethers2_held u) (aparts1_held (goal.at.merged_stage-requires c).After-parts_stage) (togethers1_held (goal.at.merged_stage-requires c).After-parts_stage) (as_long (aparts2_kept u) r.4) (as_long (togethers2_kept u) r.5) (as_long (aparts1_kept (goal.at.merged_stage-requires c).After-parts_stage) r.2) (as_long (togethers1_kept (goal.at.merged_stage-requires c).After-parts_stage) r.3); width_in_bounds = (as_long (c.parts_stage-in-loop-t.auto.low ∙ low_kept (goal.at.merged_stage-requires c).After-band_stage) c.requires.width_in_bounds_3.0, as_long (c.parts_stage-in-loop-t.auto.high ∙ high_kept (goal.at.merged_stage-requires c).After-band_stage) c.requires.width_in_bounds_3.1); width_in_bounds_2 = (as_long v.9 c.requires.width_in_bounds_2.0, as_long v.10 c.requires.width_in_bounds_2.1, as_long v.11 c.requires.width_in_bounds_2.2) }
+    record { sizes = ((projectable y).sizes, step (goal.at.merged_stage-requires c).At-loop-t); crossing = merged_ready (g y) (second y) (least y) (most y) c.args.own.now c.args.guide.now (projectable y) (distance y) c.loop-t.t a2 b2 a1 b1 (as_long (aparts2_kept u) r.4) (as_long (togethers2_kept u) r.5) (as_long (aparts1_kept q) r.2) (as_long (togethers1_kept q) r.3); width_in_bounds = (as_long (c.parts_stage-in-loop-t.auto.low ∙ low_kept n) c.requires.width_in_bounds_3.0, as_long (c.parts_stage-in-loop-t.auto.high ∙ high_kept n) c.requires.width_in_bounds_3.1); width_in_bounds_2 = (as_long v.9 c.requires.width_in_bounds_2.0, as_long v.10 c.requires.width_in_bounds_2.1, as_long v.11 c.requires.width_in_bounds_2.2) }
 
 -- the merged rings after their stage
 module _ (w : goal.After-merged_stage) where
-  abbrev u : goal.After-parts_stage-in-loop-t
-  u = w.before.before.before.before.before.before.before.before.before.before.before.before.before.before
-
   abbrev y : goal.Start
-  y = w.before.before.before.before.before.before.before.before.before.before.before.before.before.before.before.before.before.before.before.before.before.before.before.before.before.before.before.before.before.before.before.before.before.before.before.before.before.before.before.before.before.before.before.before.before.before.before.before
-
-  abbrev m : goal.At-loop-t
-  m = w.before.before.before.before.before.before.before.before.before.before.before.before.before.before.before.before.before.before.before.before.before.before.before.before.before.before.before.before.before.before.before.before.before.before.before.before.before.before.before.before.before.before.before.before
+  y = merged_from w
 
   abbrev aparts : List ℤ
   aparts = w.merged_stage.new.apart
@@ -270,29 +293,39 @@ module _ (w : goal.After-merged_stage) where
   rests_kept : length rests ≡ length w.args.rests.now
   rests_kept = w.merged_stage.auto.rests ∙ w.loop-t.invariant.11
 
-  line_kept : length w.merged_stage.new.whole ≡ length w.args.low.now
-  line_kept = w.merged_stage.auto.whole ∙ w.parts_stage-in-loop-t.auto.low ∙ low_kept w.before.before.before.before.before.before.before.before.before.before.before.before.before.before.before.before.before.before.before.before.before.before.before
+  line_kept : length w.parts_stage.new.low ≡ length w.args.low.now → length w.merged_stage.new.whole ≡ length w.args.low.now
+  line_kept low = w.merged_stage.auto.whole ∙ w.parts_stage-in-loop-t.auto.low ∙ low
 
-  aparts_held : Held (g y) 5 7 aparts (of y A) (w.loop-t.t + 1)
-  aparts_held =
+  aparts_held : Held (g y) 9 3 w.parts_stage-in-loop-t.new.apart (of y A2) (w.loop-t.t + 1) → Held (g y) 9 3 w.parts_stage-in-loop-t.new.together (of y B2) (w.loop-t.t + 1) → Held (g y) 7 1 w.parts_stage.new.apart (of y A1) (w.loop-t.t + 1) → Held (g y) 5 7 aparts (of y A) (w.loop-t.t + 1)
+  aparts_held a2 b2 a1 =
       let v = w.loop-t.invariant in
-      merged_apart_next (g y) (second y) (least y) (most y) w.args.own.now w.args.guide.now (projectable y) (distance y) w.loop-t.t (aparts2_held u) (togethers2_held u) (aparts1_held w.before.before.before.before.before.before.before.before.before.before.before.before.before.before.before.before.before.before.before.before.before.before.before.before.before.before.before.before.before.before.before.before) w.loop-t.apart (as_long v.9 w.requires.width_in_bounds_2.0) v.1.aparts w.merged_stage.ensures.apart_after
+      merged_apart_next (g y) (second y) (least y) (most y) w.args.own.now w.args.guide.now (projectable y) (distance y) w.loop-t.t a2 b2 a1 w.loop-t.apart (as_long v.9 w.requires.width_in_bounds_2.0) v.1.aparts w.merged_stage.ensures.apart_after
 
-  togethers_held : Held (g y) 5 7 togethers (of y B) (w.loop-t.t + 1)
-  togethers_held =
+  togethers_held : Held (g y) 9 3 w.parts_stage-in-loop-t.new.apart (of y A2) (w.loop-t.t + 1) → Held (g y) 9 3 w.parts_stage-in-loop-t.new.together (of y B2) (w.loop-t.t + 1) → Held (g y) 7 1 w.parts_stage.new.together (of y B1) (w.loop-t.t + 1) → Held (g y) 5 7 togethers (of y B) (w.loop-t.t + 1)
+  togethers_held a2 b2 b1 =
       let v = w.loop-t.invariant in
-      merged_together_next (g y) (second y) (least y) (most y) w.args.own.now w.args.guide.now (projectable y) (distance y) w.loop-t.t (aparts2_held u) (togethers2_held u) (togethers1_held w.before.before.before.before.before.before.before.before.before.before.before.before.before.before.before.before.before.before.before.before.before.before.before.before.before.before.before.before.before.before.before.before) w.loop-t.together (as_long v.10 w.requires.width_in_bounds_2.1) v.1.togethers w.merged_stage.ensures.together_after
+      merged_together_next (g y) (second y) (least y) (most y) w.args.own.now w.args.guide.now (projectable y) (distance y) w.loop-t.t a2 b2 b1 w.loop-t.together (as_long v.10 w.requires.width_in_bounds_2.1) v.1.togethers w.merged_stage.ensures.together_after
 
-  rests_held : Held (g y) 5 7 rests (of y R) (w.loop-t.t + 1)
-  rests_held =
+  rests_held : Held (g y) 9 3 w.parts_stage-in-loop-t.new.apart (of y A2) (w.loop-t.t + 1) → Held (g y) 9 3 w.parts_stage-in-loop-t.new.together (of y B2) (w.loop-t.t + 1) → Held (g y) 5 7 rests (of y R) (w.loop-t.t + 1)
+  rests_held a2 b2 =
       let v = w.loop-t.invariant in
-      rests_next (g y) (second y) (least y) (most y) w.args.own.now w.args.guide.now (projectable y) (distance y) w.loop-t.t (aparts2_held u) (togethers2_held u) w.loop-t.rests (as_long v.11 w.requires.width_in_bounds_2.2) v.1.rests w.merged_stage.ensures.rests_after
+      rests_next (g y) (second y) (least y) (most y) w.args.own.now w.args.guide.now (projectable y) (distance y) w.loop-t.t a2 b2 w.loop-t.rests (as_long v.11 w.requires.width_in_bounds_2.2) v.1.rests w.merged_stage.ensures.rests_after
 
 pub settled_stage-requires : goal.settled_stage-requires
 settled_stage-requires c =
+    let d = (goal.at.settled_stage-requires c).After-difference_stage in
+    let q = (goal.at.settled_stage-requires c).After-parts_stage in
+    let n = (goal.at.settled_stage-requires c).After-band_stage in
+    let u = (goal.at.settled_stage-requires c).After-parts_stage-in-loop-t in
+    let held = ring_held d in
+    let a1 = aparts1_held q held in
+    let b1 = togethers1_held q held in
+    let bands = bands_held n held (ring_kept d) (line_is q) in
+    let a2 = aparts2_held u bands in
+    let b2 = togethers2_held u bands in
     let w = (goal.at.settled_stage-requires c).After-merged_stage in
     let o = (goal.at.settled_stage-requires c).Start in
-    record { sizes = ((projectable o).sizes, step (goal.at.settled_stage-requires c).At-loop-t, as_long (line_kept w) c.requires.width_in_bounds_3.0); run = settled_ready (g o) (second o) (least o) (most o) c.args.own.now c.args.guide.now (projectable o) (distance o) c.loop-t.t c.loop-t.invariant.1.plane (aparts_held w) (togethers_held w) (rests_held w) (as_long (aparts_kept w) c.requires.width_in_bounds_2.0) (as_long (togethers_kept w) c.requires.width_in_bounds_2.1) (as_long (rests_kept w) c.requires.width_in_bounds_2.2) }
+    record { sizes = ((projectable o).sizes, step (goal.at.settled_stage-requires c).At-loop-t, as_long (line_kept w (low_kept n)) c.requires.width_in_bounds_3.0); run = settled_ready (g o) (second o) (least o) (most o) c.args.own.now c.args.guide.now (projectable o) (distance o) c.loop-t.t c.loop-t.invariant.1.plane (aparts_held w a2 b2 a1) (togethers_held w a2 b2 b1) (rests_held w a2 b2) (as_long (aparts_kept w) c.requires.width_in_bounds_2.0) (as_long (togethers_kept w) c.requires.width_in_bounds_2.1) (as_long (rests_kept w) c.requires.width_in_bounds_2.2) }
 
 pub overflow_add-t : goal.overflow_add-t
 overflow_add-t c = omega (arith, step (goal.at.overflow_add-t c).At-loop-t)
@@ -302,39 +335,47 @@ loop-t-smaller c = omega (arith, taken (goal.at.loop-t-smaller c).After-differen
 
 pub loop-t-preserved : goal.loop-t-preserved
 loop-t-preserved c =
+    let d = (goal.at.loop-t-preserved c).After-difference_stage in
+    let q = (goal.at.loop-t-preserved c).After-parts_stage in
+    let n = (goal.at.loop-t-preserved c).After-band_stage in
+    let u = (goal.at.loop-t-preserved c).After-parts_stage-in-loop-t in
+    let held = ring_held d in
+    let a1 = aparts1_held q held in
+    let b1 = togethers1_held q held in
+    let bands = bands_held n held (ring_kept d) (line_is q) in
+    let a2 = aparts2_held u bands in
+    let b2 = togethers2_held u bands in
     let w = (goal.at.loop-t-preserved c).After-merged_stage in
     let o = (goal.at.loop-t-preserved c).Start in
-    let k = (goal.at.loop-t-preserved c).After-parts_stage-in-loop-t in
-    let f = (goal.at.loop-t-preserved c).After-parts_stage in
     let v = c.loop-t.invariant in (
-      omega (arith, taken (goal.at.loop-t-preserved c).After-difference_stage),
+      omega (arith, taken d),
       record {
-        plane = settled_next (g o) (second o) (least o) (most o) c.args.own.now c.args.guide.now (projectable o) (distance o) c.loop-t.t v.1.plane (aparts_held w) (togethers_held w) (rests_held w) c.settled_stage.ensures.own_after;
-        differences = ring_held (goal.at.loop-t-preserved c).After-difference_stage;
-        bands = bands-held (goal.at.loop-t-preserved c).After-band_stage;
-        aparts1 = aparts1_held f;
-        togethers1 = togethers1_held f;
-        aparts2 = aparts2_held k;
-        togethers2 = togethers2_held k;
-        aparts = aparts_held w;
-        togethers = togethers_held w;
-        rests = rests_held w;
+        plane = settled_next (g o) (second o) (least o) (most o) c.args.own.now c.args.guide.now (projectable o) (distance o) c.loop-t.t v.1.plane (aparts_held w a2 b2 a1) (togethers_held w a2 b2 b1) (rests_held w a2 b2) c.settled_stage.ensures.own_after;
+        differences = held;
+        bands = bands;
+        aparts1 = a1;
+        togethers1 = b1;
+        aparts2 = a2;
+        togethers2 = b2;
+        aparts = aparts_held w a2 b2 a1;
+        togethers = togethers_held w a2 b2 b1;
+        rests = rests_held w a2 b2;
       },
       c.settled_stage.auto.own ∙ v.2,
-      ring_kept (goal.at.loop-t-preserved c).After-difference_stage,
-      bands-kept (goal.at.loop-t-preserved c).After-band_stage,
-      aparts1_kept f,
-      togethers1_kept f,
-      aparts2_kept k,
-      togethers2_kept k,
+      ring_kept d,
+      bands_kept n,
+      aparts1_kept q,
+      togethers1_kept q,
+      aparts2_kept u,
+      togethers2_kept u,
       aparts_kept w,
       togethers_kept w,
       rests_kept w,
-      c.settled_stage.auto.line ∙ line_kept w,
-      c.merged_stage.auto.rest ∙ c.parts_stage-in-loop-t.auto.high ∙ high_kept (goal.at.loop-t-preserved c).After-band_stage,
-      c.parts_stage-in-loop-t.auto.parts ∙ parts_kept (goal.at.loop-t-preserved c).After-band_stage,
-      c.parts_stage-in-loop-t.auto.minus ∙ minus_kept (goal.at.loop-t-preserved c).After-band_stage,
-      c.parts_stage-in-loop-t.auto.plus ∙ plus_kept (goal.at.loop-t-preserved c).After-band_stage,
+      c.settled_stage.auto.line ∙ line_kept w (low_kept n),
+      c.merged_stage.auto.rest ∙ c.parts_stage-in-loop-t.auto.high ∙ high_kept n,
+      c.parts_stage-in-loop-t.auto.parts ∙ parts_kept n,
+      c.parts_stage-in-loop-t.auto.minus ∙ minus_kept n,
+      c.parts_stage-in-loop-t.auto.plus ∙ plus_kept n,
     )
 
 pub shape_of-own : goal.shape_of-own
