@@ -6,9 +6,11 @@ mod print;
 mod reflecting;
 mod turning;
 
-fn main() {
-    reflecting::lines();
-    turning::compositions();
-    turning::refusals();
-    turning::frames();
+use std::io;
+
+fn main(rt: HostRuntime) -> io::Result<()> {
+    reflecting::lines(&rt)?;
+    turning::compositions(&rt)?;
+    turning::refusals(&rt)?;
+    turning::frames(&rt)
 }

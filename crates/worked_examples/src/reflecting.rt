@@ -2,31 +2,30 @@
 ghost use Rattle.std.specs.Prelude.{◌≤◌};
 
 use crate::print;
+use std::io;
 
-fn places(n: usize)
+fn places(rt: &impl Print, n: usize) -> io::Result<()>
     requires { (1 ≤ n) × (n ≤ 6) }
 {
-    let mut i = 0;
-    while i < 19 {
-        print::spaced(border::reflected_before(n, i, 9));
-        i += 1;
+    for i in 0..19 {
+        print::spaced(rt, border::reflected_before(n, i, 9))?;
     }
+    Ok(())
 }
 
-fn line(n: usize)
+fn line(rt: &impl Print, n: usize) -> io::Result<()>
     requires { (1 ≤ n) × (n ≤ 6) }
 {
-    print::text(b"line of ");
-    print::number(n);
-    print::text(b", from -9 to 9:");
-    places(n);
-    print::text(b"\n");
+    print::text(rt, b"line of ")?;
+    print::number(rt, n)?;
+    print::text(rt, b", from -9 to 9:")?;
+    places(rt, n)?;
+    print::text(rt, b"\n")
 }
 
-pub(crate) fn lines() {
-    let mut n = 1;
-    while n < 7 {
-        line(n);
-        n += 1;
+pub(crate) fn lines(rt: &impl Print) -> io::Result<()> {
+    for n in 1..7 {
+        line(rt, n)?;
     }
+    Ok(())
 }
