@@ -9,14 +9,16 @@ mod repeating;
 mod stores;
 mod writing;
 
-fn main() {
-    reading::packets();
-    reading::last_bytes();
-    reading::replaced_bytes();
-    writing::lengths();
-    writing::refusals();
-    mosaics::mosaics();
-    repeating::replaced_bytes();
-    repeating::sound_pairs();
-    repeating::refused_pairs();
+use std::io;
+
+fn main(rt: HostRuntime) -> io::Result<()> {
+    reading::packets(&rt)?;
+    reading::last_bytes(&rt)?;
+    reading::replaced_bytes(&rt)?;
+    writing::lengths(&rt)?;
+    writing::refusals(&rt)?;
+    mosaics::mosaics(&rt)?;
+    repeating::replaced_bytes(&rt)?;
+    repeating::sound_pairs(&rt)?;
+    repeating::refused_pairs(&rt)
 }

@@ -1,71 +1,67 @@
-// Text and numbers on standard output. A write that fails ends nothing: what is missing shows in the comparison.
-use libc::STDOUT_FILENO;
+// Text and numbers on standard output. A write that fails ends the program with its error.
 use packet::Fields;
+use std::io;
 
-pub(crate) fn text(bytes: &[u8]) {
-    io::write_all(STDOUT_FILENO, bytes);
+pub(crate) fn text(rt: &impl Print, bytes: &[u8]) -> io::Result<()> {
+    rt.write_all(bytes)
 }
 
-pub(crate) fn end_line() {
-    text(b"\n");
+pub(crate) fn end_line(rt: &impl Print) -> io::Result<()> {
+    text(rt, b"\n")
 }
 
-pub(crate) fn number(n: usize) {
-    io::print_decimal(STDOUT_FILENO, n as u64);
+pub(crate) fn number(rt: &impl Print, n: usize) -> io::Result<()> {
+    rt.print(n)
 }
 
 // A number after a space.
-pub(crate) fn spaced(n: usize) {
-    text(b" ");
-    number(n);
+pub(crate) fn spaced(rt: &impl Print, n: usize) -> io::Result<()> {
+    text(rt, b" ")?;
+    number(rt, n)
 }
 
-pub(crate) fn refused(n: u32) {
-    text(b"refused ");
-    number(n as usize);
+pub(crate) fn refused(rt: &impl Print, n: u32) -> io::Result<()> {
+    text(rt, b"refused ")?;
+    number(rt, n as usize)
 }
 
 // A line of a refusal.
-pub(crate) fn refused_line(n: u32) {
-    refused(n);
-    end_line();
+pub(crate) fn refused_line(rt: &impl Print, n: u32) -> io::Result<()> {
+    refused(rt, n)?;
+    end_line(rt)
 }
 
 // The number at a place of a line: a space parts it from the one before.
-pub(crate) fn at_place(place: usize, n: usize) {
+pub(crate) fn at_place(rt: &impl Print, place: usize, n: usize) -> io::Result<()> {
     if place == 0 {
-        number(n);
+        number(rt, n)
     } else {
-        spaced(n);
+        spaced(rt, n)
     }
 }
 
 // A line of all bytes.
-pub(crate) fn bytes(bytes: &[u8]) {
-    let mut k = 0;
-    while k < bytes.len() {
-        at_place(k, bytes[k] as usize);
-        k += 1;
+pub(crate) fn bytes(rt: &impl Print, bytes: &[u8]) -> io::Result<()> {
+    for (k, byte) in bytes.iter().enumerate() {
+        at_place(rt, k, *byte as usize)?;
     }
-    end_line();
+    end_line(rt)
 }
 
 // A line of all samples.
-pub(crate) fn samples(samples: &[u16]) {
-    let mut k = 0;
-    while k < samples.len() {
-        at_place(k, samples[k] as usize);
-        k += 1;
+pub(crate) fn samples(rt: &impl Print, samples: &[u16]) -> io::Result<()> {
+    for (k, sample) in samples.iter().enumerate() {
+        at_place(rt, k, *sample as usize)?;
     }
-    end_line();
+    end_line(rt)
 }
 
 // A line of what a trailer says.
-pub(crate) fn fields(f: Fields) {
-    number(f.width);
-    spaced(f.height);
-    spaced(f.layout as usize);
-    spaced(f.settings.rounds as usize);
-    spaced(f.settings.threshold as usize);
-    end_line();
+pub(crate) fn fields(rt: &impl Print, f: Fields) -> io::Result<()> {
+    number(rt, f.width)?;
+    spaced(rt, f.height)?;
+    spaced(rt, f.layout as usize)?;
+    spaced(rt, f.settings.rounds as usize)?;
+    spaced(rt, f.settings.threshold as usize)?;
+    end_line(rt)
 }

@@ -3,42 +3,42 @@ ghost use Rattle.std.specs.Prelude.{◌<◌, ◌≤◌};
 
 use crate::{print, stores};
 use packet::ReadPacket;
+use std::io;
 
 // A line of the packet's fields and a line of its samples' bytes, or a line of its refusal.
-fn show(store: &[u8]) {
+fn show(rt: &impl Print, store: &[u8]) -> io::Result<()> {
     match packet::read_packet(store) {
         ReadPacket::Sound(f) => {
-            print::fields(f);
-            print::bytes(packet::packet_samples(store));
+            print::fields(rt, f)?;
+            print::bytes(rt, packet::packet_samples(store))
         }
-        ReadPacket::Refused(n) => print::refused_line(n),
+        ReadPacket::Refused(n) => print::refused_line(rt, n),
     }
 }
 
 // Bytes before the packet change nothing.
-pub(crate) fn packets() {
+pub(crate) fn packets(rt: &impl Print) -> io::Result<()> {
     let store = stores::two_by_two();
     let longer = stores::behind_three();
-    show(&store);
-    show(&longer);
+    show(rt, &store)?;
+    show(rt, &longer)
 }
 
-fn refusal_of_last(n: usize)
+fn refusal_of_last(rt: &impl Print, n: usize) -> io::Result<()>
     requires { n ≤ 20 }
 {
     let store = stores::two_by_two();
-    print::number(n);
-    print::spaced(packet::packet_refusal(&store[20 - n..20]) as usize);
-    print::end_line();
+    print::number(rt, n)?;
+    print::spaced(rt, packet::packet_refusal(&store[20 - n..20]) as usize)?;
+    print::end_line(rt)
 }
 
 // The last 0 to 20 bytes of a packet of 20.
-pub(crate) fn last_bytes() {
-    let mut n = 0;
-    while n < 21 {
-        refusal_of_last(n);
-        n += 1;
+pub(crate) fn last_bytes(rt: &impl Print) -> io::Result<()> {
+    for n in 0..21 {
+        refusal_of_last(rt, n)?;
     }
+    Ok(())
 }
 
 fn refusal_with(place: usize, value: u8) -> usize
@@ -48,23 +48,20 @@ fn refusal_with(place: usize, value: u8) -> usize
     packet::packet_refusal(&store) as usize
 }
 
-fn refusals_with(place: usize, values: &[u8])
+fn refusals_with(rt: &impl Print, place: usize, values: &[u8]) -> io::Result<()>
     requires { place < 20 }
 {
-    let mut k = 0;
-    while k < values.len() {
-        print::at_place(k, refusal_with(place, values[k]));
-        k += 1;
+    for (k, value) in values.iter().enumerate() {
+        print::at_place(rt, k, refusal_with(place, *value))?;
     }
-    print::end_line();
+    print::end_line(rt)
 }
 
 // Each byte of the packet, replaced by each of ten.
-pub(crate) fn replaced_bytes() {
+pub(crate) fn replaced_bytes(rt: &impl Print) -> io::Result<()> {
     let values = [0u8, 1, 2, 3, 4, 7, 8, 16, 65, 255];
-    let mut place = 0;
-    while place < 20 {
-        refusals_with(place, &values);
-        place += 1;
+    for place in 0..20 {
+        refusals_with(rt, place, &values)?;
     }
+    Ok(())
 }

@@ -4,31 +4,32 @@ ghost use Rattle.std.specs.Prelude.{◌≤◌};
 use crate::print;
 use packet::{Fields, WrittenPacket};
 use questions::Settings;
+use std::io;
 
-fn written(answer: WrittenPacket) {
+fn written(rt: &impl Print, answer: WrittenPacket) -> io::Result<()> {
     match answer {
         WrittenPacket::Bytes(n) => {
-            print::text(b"wrote ");
-            print::number(n);
+            print::text(rt, b"wrote ")?;
+            print::number(rt, n)?;
         }
-        WrittenPacket::Refused(n) => print::refused(n),
+        WrittenPacket::Refused(n) => print::refused(rt, n)?,
     }
-    print::end_line();
+    print::end_line(rt)
 }
 
 // A line of the answer and a line of the whole buffer after it.
-fn show(f: Fields, samples: &[u16], out: &mut [u8]) {
-    written(packet::write_packet(f, samples, out));
-    print::bytes(out);
+fn show(rt: &impl Print, f: Fields, samples: &[u16], out: &mut [u8]) -> io::Result<()> {
+    written(rt, packet::write_packet(f, samples, out))?;
+    print::bytes(rt, out)
 }
 
 // Six samples, of which the last is given, into a buffer of so many bytes.
-fn example(f: Fields, last: u16, room: usize)
+fn example(rt: &impl Print, f: Fields, last: u16, room: usize) -> io::Result<()>
     requires { room ≤ 26 }
 {
     let samples = [0, 1, 255, 256, 4094, last];
     let mut out = [255u8; 26];
-    show(f, &samples, &mut out[0..room]);
+    show(rt, f, &samples, &mut out[0..room])
 }
 
 fn fields(width: usize, height: usize, layout: u8, rounds: u8, threshold: u16) -> Fields {
@@ -41,23 +42,23 @@ fn fields(width: usize, height: usize, layout: u8, rounds: u8, threshold: u16) -
 }
 
 // Room for one byte less than the packet, for the packet, and for two bytes more, which stay; and for a packet with two levels.
-pub(crate) fn lengths() {
-    example(fields(3, 2, 1, 64, 4095), 4095, 23);
-    example(fields(3, 2, 1, 64, 4095), 4095, 24);
-    example(fields(3, 2, 1, 64, 4095), 4095, 26);
-    example(fields(3, 2, 7, 64, 4095), 4095, 24);
+pub(crate) fn lengths(rt: &impl Print) -> io::Result<()> {
+    example(rt, fields(3, 2, 1, 64, 4095), 4095, 23)?;
+    example(rt, fields(3, 2, 1, 64, 4095), 4095, 24)?;
+    example(rt, fields(3, 2, 1, 64, 4095), 4095, 26)?;
+    example(rt, fields(3, 2, 7, 64, 4095), 4095, 24)
 }
 
 // Questions 1 to 6 and 9 answered no, and last 9 and 14 both.
-pub(crate) fn refusals() {
-    example(fields(1, 2, 1, 64, 4095), 4095, 26);
-    example(fields(2049, 2, 1, 64, 4095), 4095, 26);
-    example(fields(3, 1, 1, 64, 4095), 4095, 26);
-    example(fields(3, 2049, 1, 64, 4095), 4095, 26);
-    example(fields(3, 2, 8, 64, 4095), 4095, 26);
-    example(fields(3, 2, 1, 65, 4095), 4095, 26);
-    example(fields(3, 2, 1, 64, 4096), 4095, 26);
-    example(fields(2, 2, 1, 64, 4095), 4095, 26);
-    example(fields(3, 2, 1, 64, 4095), 4096, 26);
-    example(fields(3, 2, 1, 64, 4095), 4096, 23);
+pub(crate) fn refusals(rt: &impl Print) -> io::Result<()> {
+    example(rt, fields(1, 2, 1, 64, 4095), 4095, 26)?;
+    example(rt, fields(2049, 2, 1, 64, 4095), 4095, 26)?;
+    example(rt, fields(3, 1, 1, 64, 4095), 4095, 26)?;
+    example(rt, fields(3, 2049, 1, 64, 4095), 4095, 26)?;
+    example(rt, fields(3, 2, 8, 64, 4095), 4095, 26)?;
+    example(rt, fields(3, 2, 1, 65, 4095), 4095, 26)?;
+    example(rt, fields(3, 2, 1, 64, 4096), 4095, 26)?;
+    example(rt, fields(2, 2, 1, 64, 4095), 4095, 26)?;
+    example(rt, fields(3, 2, 1, 64, 4095), 4096, 26)?;
+    example(rt, fields(3, 2, 1, 64, 4095), 4096, 23)
 }
