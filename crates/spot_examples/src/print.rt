@@ -1,65 +1,66 @@
-// Answers on standard output. A write that fails ends nothing: what is missing shows in the comparison.
-use libc::STDOUT_FILENO;
+// Answers on standard output. A write that fails ends the program with its error.
 use spot::{Kept, Reading, Spot, SpotAnswer};
+use std::io;
 
-fn text(bytes: &[u8]) {
-    io::write_all(STDOUT_FILENO, bytes);
+fn text(rt: &impl Print, bytes: &[u8]) -> io::Result<()> {
+    rt.write_all(bytes)
 }
 
 // A float's bits. A NaN has none of its own, and 0 stands for it.
 fn bits(x: f64) -> u64 {
-    if x != x {
+    if x.is_nan() {
         return 0;
     }
     f64::to_bits(x)
 }
 
 // A float after a space, by its bits, so that nothing is rounded.
-fn colour(x: f64) {
-    text(b" ");
-    io::print_hex(STDOUT_FILENO, bits(x), 16);
+fn colour(rt: &impl Print, x: f64) -> io::Result<()> {
+    text(rt, b" ")?;
+    let bits = bits(x);
+    print!(rt; "{bits:016x}")
 }
 
-fn spot(s: Spot) {
-    colour(s.red);
-    colour(s.green);
-    colour(s.blue);
+fn spot(rt: &impl Print, s: Spot) -> io::Result<()> {
+    colour(rt, s.red)?;
+    colour(rt, s.green)?;
+    colour(rt, s.blue)
 }
 
-fn reading(r: Reading) {
+fn reading(rt: &impl Print, r: Reading) -> io::Result<()> {
     match r {
-        Reading::Starting => text(b"starting"),
-        Reading::Dark => text(b"dark"),
+        Reading::Starting => text(rt, b"starting"),
+        Reading::Dark => text(rt, b"dark"),
         Reading::Steady(s) => {
-            text(b"steady");
-            spot(s);
+            text(rt, b"steady")?;
+            spot(rt, s)
         }
     }
 }
 
-fn kept(k: Kept) {
-    text(b"; kept");
-    spot(k.spot);
+fn kept(rt: &impl Print, k: Kept) -> io::Result<()> {
+    text(rt, b"; kept")?;
+    spot(rt, k.spot)?;
     if k.lit {
-        text(b", lit\n");
+        text(rt, b", lit\n")
     } else {
-        text(b", not lit\n");
+        text(rt, b", not lit\n")
     }
 }
 
 // A line of an answer. Handed on is what is kept.
-pub(crate) fn answer(a: SpotAnswer) -> Kept {
+pub(crate) fn answer(rt: &impl Print, a: SpotAnswer) -> io::Result<Kept> {
     match a {
         SpotAnswer::Accepted(r, k) => {
-            reading(r);
-            kept(k);
-            k
+            reading(rt, r)?;
+            kept(rt, k)?;
+            Ok(k)
         }
         SpotAnswer::Refused(number, k) => {
-            text(b"refused ");
-            io::print_decimal(STDOUT_FILENO, number as u64);
-            kept(k);
-            k
+            text(rt, b"refused ")?;
+            rt.print(number)?;
+            kept(rt, k)?;
+            Ok(k)
         }
     }
 }
