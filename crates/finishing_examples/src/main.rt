@@ -8,11 +8,13 @@ mod refused;
 mod running;
 mod turned;
 
-fn main() {
-    turned::single_turns();
-    turned::lists();
-    turned::other_lengths();
-    refused::settings();
-    refused::lengths();
-    refused::in_order();
+use std::io;
+
+fn main(rt: HostRuntime) -> io::Result<()> {
+    turned::single_turns(&rt)?;
+    turned::lists(&rt)?;
+    turned::other_lengths(&rt)?;
+    refused::settings(&rt)?;
+    refused::lengths(&rt)?;
+    refused::in_order(&rt)
 }

@@ -1,39 +1,35 @@
-// Numbers on standard output. A write that fails ends nothing: what is missing shows in the comparison.
-use libc::STDOUT_FILENO;
+// Numbers on standard output. A write that fails ends the program with its error.
+use std::io;
 
-pub(crate) fn end_line() {
-    io::write_all(STDOUT_FILENO, b"\n");
+pub(crate) fn end_line(rt: &impl Print) -> io::Result<()> {
+    rt.write_all(b"\n")
 }
 
 // The number at a place of a line: a space parts it from the one before.
-pub(crate) fn at_place(place: usize, n: usize) {
+pub(crate) fn at_place(rt: &impl Print, place: usize, n: usize) -> io::Result<()> {
     if place != 0 {
-        io::write_all(STDOUT_FILENO, b" ");
+        rt.write_all(b" ")?;
     }
-    io::print_decimal(STDOUT_FILENO, n as u64);
+    rt.print(n)
 }
 
 // A line of all bytes.
-pub(crate) fn bytes(bytes: &[u8]) {
-    let mut k = 0;
-    while k < bytes.len() {
-        at_place(k, bytes[k] as usize);
-        k += 1;
+pub(crate) fn bytes(rt: &impl Print, bytes: &[u8]) -> io::Result<()> {
+    for (k, byte) in bytes.iter().enumerate() {
+        at_place(rt, k, *byte as usize)?;
     }
-    end_line();
+    end_line(rt)
 }
 
-fn sample(place: usize, x: u16) {
-    at_place(place, x as usize);
+fn sample(rt: &impl Print, place: usize, x: u16) -> io::Result<()> {
+    at_place(rt, place, x as usize)
 }
 
 // A line of the first n samples, at most 12.
-pub(crate) fn samples(n: usize, samples: &[u16; 12]) {
+pub(crate) fn samples(rt: &impl Print, n: usize, samples: &[u16; 12]) -> io::Result<()> {
     let end = n % 13;
-    let mut k = 0;
-    while k < end {
-        sample(k, samples[k]);
-        k += 1;
+    for k in 0..end {
+        sample(rt, k, samples[k])?;
     }
-    end_line();
+    end_line(rt)
 }

@@ -3,27 +3,33 @@ use crate::frames::Example;
 use crate::{frames, print};
 use demand_3::Numbers;
 use questions::Settings;
+use std::io;
 
 // A line of the turns, a line of both numbers, and a line of each mosaic.
-fn print_turned(turns: &[u8], numbers: Numbers, e: Example, first: &[u16; 12], second: &[u16; 12]) {
-    print::bytes(turns);
-    print::at_place(0, numbers.given as usize);
-    print::at_place(1, numbers.turned as usize);
-    print::end_line();
-    print::samples(e.first, first);
-    print::samples(e.second, second);
+fn print_turned(
+    rt: &impl Print,
+    turns: &[u8],
+    numbers: Numbers,
+    e: Example,
+    first: &[u16; 12],
+    second: &[u16; 12],
+) -> io::Result<()> {
+    print::bytes(rt, turns)?;
+    print::at_place(rt, 0, numbers.given as usize)?;
+    print::at_place(rt, 1, numbers.turned as usize)?;
+    print::end_line(rt)?;
+    print::samples(rt, e.first, first)?;
+    print::samples(rt, e.second, second)
 }
 
 // How many of the first n numbers, at most 97, are this one.
 fn count(value: i32, n: usize, numbers: &[i32; 97]) -> usize {
     let end = n % 98;
     let mut found = 0;
-    let mut k = 0;
-    while k < end {
+    for k in 0..end {
         if numbers[k] == value {
             found += 1;
         }
-        k += 1;
     }
     found
 }
@@ -32,38 +38,37 @@ fn count(value: i32, n: usize, numbers: &[i32; 97]) -> usize {
 fn count_wide(value: i64, n: usize, numbers: &[i64; 97]) -> usize {
     let end = n % 98;
     let mut found = 0;
-    let mut k = 0;
-    while k < end {
+    for k in 0..end {
         if numbers[k] == value {
             found += 1;
         }
-        k += 1;
     }
     found
 }
 
 // A line of each plane, and a line of how many zeros and how many fives the work buffer holds, and the wide one.
 fn print_finished(
+    rt: &impl Print,
     e: Example,
     red: &[u16; 12],
     green: &[u16; 12],
     blue: &[u16; 12],
     work: &[i32; 97],
     wide: &[i64; 97],
-) {
-    print::samples(e.red, red);
-    print::samples(e.green, green);
-    print::samples(e.blue, blue);
-    print::at_place(0, count(0, e.work, work));
-    print::at_place(1, count(5, e.work, work));
-    print::at_place(2, count_wide(0, e.wide, wide));
-    print::at_place(3, count_wide(5, e.wide, wide));
-    print::end_line();
+) -> io::Result<()> {
+    print::samples(rt, e.red, red)?;
+    print::samples(rt, e.green, green)?;
+    print::samples(rt, e.blue, blue)?;
+    print::at_place(rt, 0, count(0, e.work, work))?;
+    print::at_place(rt, 1, count(5, e.work, work))?;
+    print::at_place(rt, 2, count_wide(0, e.wide, wide))?;
+    print::at_place(rt, 3, count_wide(5, e.wide, wide))?;
+    print::end_line(rt)
 }
 
 // The example with these turns. A buffer that is left as it was shows what it was filled with. The remainders change no length of
 // an example: they keep it within the array.
-pub(crate) fn show(turns: &[u8], e: Example) {
+pub(crate) fn show(rt: &impl Print, turns: &[u8], e: Example) -> io::Result<()> {
     let mut first = frames::samples(e.sample);
     let mut second = [3u16; 12];
     let mut red1 = [7u16; 12];
@@ -106,7 +111,7 @@ pub(crate) fn show(turns: &[u8], e: Example) {
         &mut work2[0..w],
         &mut wide2[0..v],
     );
-    print_turned(turns, numbers, e, &first, &second);
-    print_finished(e, &red1, &green1, &blue1, &work1, &wide1);
-    print_finished(e, &red2, &green2, &blue2, &work2, &wide2);
+    print_turned(rt, turns, numbers, e, &first, &second)?;
+    print_finished(rt, e, &red1, &green1, &blue1, &work1, &wide1)?;
+    print_finished(rt, e, &red2, &green2, &blue2, &work2, &wide2)
 }
