@@ -10,8 +10,8 @@ pub returns-in-Refused : goal.returns-in-Refused
 returns-in-Refused c = spot_returned _ _ _ _ _ _ c.read_spot-answer.ensures _ c.in-Refused.is
 
 -- an accepted answer whose reading was seen to be `found`
-seen : (q : goal.In-Accepted) {found : Reading} → q.answer-in-Accepted-1.type_inv.0.0 ≡ found → q.read_spot-answer.result ≡ Accepted found q.answer-in-Accepted-1.type_inv.0.1.0
-seen q e = q.answer-in-Accepted-1.type_inv.1 ∙ ap (λ (x : Reading). Accepted x q.answer-in-Accepted-1.type_inv.0.1.0) e
+seen : (q : goal.In-Accepted) {found : Reading} → q.in-Accepted.found ≡ found → q.read_spot-answer.result ≡ Accepted found q.in-Accepted.field-1
+seen q e = q.in-Accepted.is ∙ ap (λ (x : Reading). Accepted x q.in-Accepted.field-1) e
 
 pub returns-in-Starting : goal.returns-in-Starting
 returns-in-Starting c = spot_returned _ _ _ _ _ _ c.read_spot-answer.ensures _ (seen (goal.at.returns-in-Starting c).In-Accepted c.in-Starting.is)
