@@ -1,9 +1,9 @@
 -- Document 01, "Packet": what the reader answers of a store whose end is a packet's end. Assumes nothing.
-use Rattle.std.specs.Prelude.{ℕ, ◌≡◌, List, []}
+use Rattle.std.specs.Prelude.{ℕ, ◌≡◌, List}
 use Rattle.questions.specs.Questions.{ask}
 use Rattle.questions.specs.Calls.{if_accepted}
-use Rattle.packet.specs.Packet.{fields_of, sample_part}
-use Rattle.packet.specs.Calls.{read_questions}
+use Rattle.packet.specs.Packet.{fields_of}
+use Rattle.packet.specs.Calls.{read_questions, part_read}
 use Rattle.packet.specs.declared.Fields.{Fields}
 use Rattle.reader.specs.declared.Packet.{Packet}
 
@@ -14,10 +14,6 @@ no_fields = record { width = 0; height = 0; layout = 0; settings = record { roun
 -- the fields, all 0 where the packet is refused
 abbrev pub fields_read : List ℕ → Fields
 fields_read store = if_accepted (read_questions store) (fields_of store) no_fields
-
--- the part of the store that holds the samples: the empty part where the packet is refused
-abbrev pub part_read : List ℕ → List ℕ
-part_read store = if_accepted (read_questions store) (sample_part store) []
 
 -- the answer r of the reader
 pub record PacketRead (store : List ℕ) (r : Packet) : Type 0 where

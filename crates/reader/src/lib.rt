@@ -2,12 +2,10 @@
 #![tactic(auto)]
 
 ghost use Rattle.std.specs.Prelude.{◌≡◌};
-ghost use Rattle.questions.specs.Questions.{ask};
-ghost use Rattle.packet.specs.Calls.{read_questions};
-ghost use Rattle.reader.specs.Reader.{fields_read, part_read, PacketRead};
+ghost use Rattle.reader.specs.Reader.{fields_read, PacketRead};
 
+use packet::{Fields, ReadPacket};
 use questions::Settings;
-use trailer::Fields;
 
 // What the reader answers: the refusal number, 0 for a sound packet; the packet's fields; and the part of the store that holds its samples, two bytes
 // each. Where the packet is refused, every field is 0 and the part is empty.
@@ -18,13 +16,13 @@ pub struct Packet<'a> {
     pub samples: &'a [u8],
 }
 
-// The fields of a packet that has this refusal number.
-fn fields_read(store: &[u8], number: u32) -> Fields
-    requires { number ≡ ask (read_questions store.now) }
+// The packet's fields.
+fn fields_read(store: &[u8]) -> Fields
     ensures { result ≡ fields_read store.now }
 {
-    if number != 0 {
-        return Fields {
+    match packet::read_packet(store) {
+        ReadPacket::Sound(fields) => fields,
+        ReadPacket::Refused(_) => Fields {
             width: 0,
             height: 0,
             layout: 0,
@@ -32,39 +30,20 @@ fn fields_read(store: &[u8], number: u32) -> Fields
                 rounds: 0,
                 threshold: 0,
             },
-        };
+        },
     }
-    trailer::fields_of(store)
 }
 
-// The part of the store that holds the samples of a packet that has this refusal number.
-fn part_read(store: &[u8], refusal: u32) -> &[u8]
-    requires { refusal ≡ ask (read_questions store.now) }
-    ensures { result.now ≡ part_read store.now }
-{
-    if refusal != 0 {
-        return &store[0..0];
-    }
-    trailer::sample_part(store)
-}
-
-// The reader. The samples are looked at once, for question 9.
+// The reader.
 pub fn read<'a>(store: &'a [u8]) -> Packet<'a>
     ensures { PacketRead store.now result }
 {
     let number = packet::packet_refusal(store);
-    let fields = fields_read(store, number);
-    let samples = part_read(store, number);
+    let fields = fields_read(store);
+    let samples = packet::packet_samples(store);
     Packet {
         number,
         fields,
         samples,
     }
-}
-
-// The reader's part alone.
-pub fn packet_samples(store: &[u8]) -> &[u8]
-    ensures { result.now ≡ part_read store.now }
-{
-    part_read(store, packet::packet_refusal(store))
 }
