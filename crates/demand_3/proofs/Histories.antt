@@ -4,7 +4,7 @@ use mathlib.Core.Bool.{not}
 use mathlib.Core.List.{List, [], ◌∷◌}
 use Prim.Native.Nat.{ℕ, zero, suc}
 use native.Mathlib.Omega.{arith}
-use Rattle.planes.specs.Planes.{Frame, frame}
+use Rattle.planes.specs.Planes.{Frame}
 use Rattle.questions.specs.Questions.{ask}
 use Rattle.questions.specs.Calls.{if_accepted, Result}
 use Rattle.turns.specs.Frames.{turn_frame}

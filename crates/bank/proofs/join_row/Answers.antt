@@ -76,14 +76,17 @@ join_along-requires c =
     let a = c.args in
     let z = c.requires.sizes in
     let n = near (goal.at.join_along-requires c).After-reflected-2 in
-    record { le_n = (
+    record {
+      le_n = (
         z.0.width_from,
         z.0.width_to,
         omega (arith, c.join_lines.auto.out),
         joined_run n a.band1.now a.band3.now a.low.now (low_room (goal.at.join_along-requires c).Start) c.join_lines.ensures z.2 z.4 67108864 (omega arith),
         omega (arith, c.join_lines-2.auto.out),
         joined_run n a.band2.now a.band4.now a.high.now (high_room (goal.at.join_along-requires c).Start) c.join_lines-2.ensures z.3 z.5 67108864 (omega arith),
-      ); n_in_bounds = omega (arith, room (goal.at.join_along-requires c).Start) }
+      );
+      n_in_bounds = omega (arith, room (goal.at.join_along-requires c).Start);
+    }
 
 pub returns : goal.returns
 returns c =

@@ -1,6 +1,6 @@
 -- `bank::join_rows` meets its contract: after r turns, r rows of the sums are laid down.
 use mathlib.Core.Path.{◌≡◌, refl, ◌∙◌}
-use Prim.Native.Nat.{ℕ, ◌-◌}
+use Prim.Native.Nat.{ℕ}
 use native.Mathlib.Omega.{arith}
 use lib.IntN.{ℤ}
 use Rattle.planes.proofs.Planes.{overwrite_no_row, row_laid, all_laid}
@@ -26,8 +26,7 @@ join_row-requires c =
 pub loop-r-preserved : goal.loop-r-preserved
 loop-r-preserved c =
     let a = c.args in
-    let v = c.loop-r.invariant in
-    (
+    let v = c.loop-r.invariant in (
       omega (arith, c.loop-r-test.true),
       row_laid a.width c.loop-r-test.true a.sums.now c.requires.width_in_bounds.2 (Sums (goal.at.loop-r-preserved c).Start) v.1 c.join_row.ensures,
       c.join_row.auto.low ∙ v.2,

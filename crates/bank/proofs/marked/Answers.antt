@@ -8,7 +8,6 @@ use mir.Syntax.{w32}
 use mir.Val.{to_z, of_z}
 use mir.Facts.{to_z-of_z as back}
 use Rattle.integers.proofs.Bounds.{fits, bounds}
-use Rattle.planes.specs.Lists.{value}
 use Rattle.bank.proofs.Calls.{beyond_below, beyond_above, not_beyond}
 use Rattle.bank.proofs.marked.Goals as goal
 use Rattle.bank.proofs.marked.Goals.{Else-value-most, Start, Then-value-most}

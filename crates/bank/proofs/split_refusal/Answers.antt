@@ -1,6 +1,5 @@
 -- `bank::split_refusal` meets its contract: 1 and 2, then 6, 7 and 15.
 use mathlib.Core.Path.{sym, ◌∙◌}
-use mathlib.Core.Bool.{true, false}
 use native.Mathlib.Omega.{arith}
 use Rattle.questions.proofs.Asking.{asking, ask-first, ask_then, sizes_known}
 use Rattle.bank.proofs.split_refusal.Goals as goal

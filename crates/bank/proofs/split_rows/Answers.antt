@@ -1,6 +1,6 @@
 -- `bank::split_rows` meets its contract: after r turns, r rows of each band are laid down.
 use mathlib.Core.Path.{◌≡◌, refl, ◌∙◌}
-use Prim.Native.Nat.{ℕ, ◌-◌}
+use Prim.Native.Nat.{ℕ}
 use native.Mathlib.Omega.{arith}
 use lib.IntN.{ℤ}
 use Rattle.planes.proofs.Planes.{overwrite_no_row, row_laid, all_laid}

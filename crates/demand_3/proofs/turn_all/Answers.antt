@@ -1,6 +1,5 @@
 -- `demand_3::turn_all` meets its contract.
 use mathlib.Core.Path.{refl}
-use Prim.Native.Nat.{◌-◌}
 use native.Mathlib.Omega.{arith}
 use borrow.Author.Rules.{rules}
 use Rattle.demand_3.specs.Alike.{stands}
@@ -11,13 +10,12 @@ pub loop-k-init : goal.loop-k-init
 loop-k-init c = (omega arith, refl, refl, refl)
 
 pub loop-k-preserved : goal.loop-k-preserved
-loop-k-preserved c =
-    (
-      omega arith,
-      all_step c.args.turns.now c.loop-k.k (omega arith) (stands c.loop-k.at c.loop-k.first c.loop-k.second) c.turn_once-at.ensures c.loop-k.invariant.1,
-      search rules,
-      search rules,
-    )
+loop-k-preserved c = (
+  omega arith,
+  all_step c.args.turns.now c.loop-k.k (omega arith) (stands c.loop-k.at c.loop-k.first c.loop-k.second) c.turn_once-at.ensures c.loop-k.invariant.1,
+  search rules,
+  search rules,
+)
 
 pub shape_of-first : goal.shape_of-first
 shape_of-first c = c.loop-k.invariant.2

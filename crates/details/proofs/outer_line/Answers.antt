@@ -1,6 +1,6 @@
 -- `details::outer_line` meets its contract: after k turns, k places are laid down.
 use mathlib.Core.Path.{◌≡◌, refl, sym, ◌∙◌, subst}
-use Prim.Native.Nat.{ℕ, ◌+◌, ◌-◌}
+use Prim.Native.Nat.{ℕ, ◌+◌}
 use native.Mathlib.Omega.{arith}
 use lib.IntN.{ℤ}
 use lib.ListN.{length-set}
@@ -29,12 +29,11 @@ outer_high-requires c =
     search rules
 
 pub loop-k-preserved : goal.loop-k-preserved
-loop-k-preserved c =
-    (
-      omega arith,
-      overwrite_step c.args.out.now c.args.at c.loop-k.k (Laid (goal.at.loop-k-preserved c).Start) (c.args.at + c.loop-k.k) refl c.loop-k.invariant.1 (read_is w32 c.outer_high.type_inv c.outer_high.ensures) (omega arith),
-      simp length-set c.loop-k.invariant.2,
-    )
+loop-k-preserved c = (
+  omega arith,
+  overwrite_step c.args.out.now c.args.at c.loop-k.k (Laid (goal.at.loop-k-preserved c).Start) (c.args.at + c.loop-k.k) refl c.loop-k.invariant.1 (read_is w32 c.outer_high.type_inv c.outer_high.ensures) (omega arith),
+  simp length-set c.loop-k.invariant.2,
+)
 
 pub shape_of-out : goal.shape_of-out
 shape_of-out c = c.loop-k.invariant.2

@@ -1,6 +1,5 @@
 -- `estimate::estimate_refusal` meets its contract: the shape's questions, then 6, 7 and 9.
 use mathlib.Core.Path.{sym, ◌∙◌}
-use mathlib.Core.Bool.{true, false}
 use native.Mathlib.Omega.{arith}
 use Rattle.questions.proofs.Asking.{asking, ask-first, ask_then, sizes_known}
 use Rattle.estimate.proofs.estimate_refusal.Goals as goal

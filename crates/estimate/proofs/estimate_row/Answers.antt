@@ -2,7 +2,6 @@
 use mathlib.Core.Path.{sym, ◌∙◌}
 use Prim.Native.Nat.{ℕ, ◌+◌, ◌*◌, ◌≤◌}
 use native.Mathlib.Omega.{arith}
-use borrow.Author.Tests.{ltb-true}
 use Rattle.planes.specs.Planes.{plane_of, Planes}
 use Rattle.planes.proofs.Planes.{row_room}
 use Rattle.estimate.specs.Estimates.{estimate}

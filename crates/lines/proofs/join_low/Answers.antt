@@ -1,6 +1,6 @@
 -- `lines::join_low` meets its contract: after i turns, i places are laid down.
 use mathlib.Core.Path.{◌≡◌, refl, ◌∙◌, ap}
-use Prim.Native.Nat.{ℕ, ◌+◌, ◌-◌}
+use Prim.Native.Nat.{ℕ, ◌+◌}
 use native.Mathlib.Omega.{arith}
 use lib.Dec.{lit<}
 use lib.IntN.{ℤ}
@@ -26,12 +26,11 @@ pub low_join-requires : goal.low_join-requires
 low_join-requires c = five_small low_join c.requires.runs c.loop-i.i c.loop-i-test.true _ (omega arith)
 
 pub loop-i-preserved : goal.loop-i-preserved
-loop-i-preserved c =
-    (
-      omega arith,
-      overwrite_step c.args.out.now c.args.at c.loop-i.i (Low (goal.at.loop-i-preserved c).Start) (c.args.at + c.loop-i.i) refl c.loop-i.invariant.1 (read_is w32 c.low_join.type_inv c.low_join.ensures ∙ five_read low_join c.requires.runs c.loop-i.i c.loop-i-test.true (lit< tt)) (omega arith),
-      simp length-set c.loop-i.invariant.2,
-    )
+loop-i-preserved c = (
+  omega arith,
+  overwrite_step c.args.out.now c.args.at c.loop-i.i (Low (goal.at.loop-i-preserved c).Start) (c.args.at + c.loop-i.i) refl c.loop-i.invariant.1 (read_is w32 c.low_join.type_inv c.low_join.ensures ∙ five_read low_join c.requires.runs c.loop-i.i c.loop-i-test.true (lit< tt)) (omega arith),
+  simp length-set c.loop-i.invariant.2,
+)
 
 pub shape_of-out : goal.shape_of-out
 shape_of-out c = c.loop-i.invariant.2

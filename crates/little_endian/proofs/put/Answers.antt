@@ -1,6 +1,6 @@
 -- `little_endian::put` meets its contract: the bytes that are left to store, stored, make what is promised.
 use mathlib.Core.Path.{refl, ◌∙◌}
-use Prim.Native.Nat.{◌+◌, ◌-◌}
+use Prim.Native.Nat.{◌+◌}
 use native.Mathlib.Omega.{arith}
 use lib.ListN.{length-set}
 use Rattle.little_endian.proofs.Bytes.{bytes_none, bytes_step, put_end}

@@ -1,6 +1,5 @@
 -- `little_endian::read_samples` meets its contract: after k turns, k samples are laid down.
 use mathlib.Core.Path.{refl}
-use Prim.Native.Nat.{◌-◌}
 use native.Mathlib.Omega.{arith}
 use lib.ListN.{length-set}
 use Rattle.integers.proofs.Lists.{overwrite_none, overwrite_step}

@@ -1,6 +1,5 @@
 -- `little_endian::same_samples` meets its contract: the samples passed agree.
 use mathlib.Core.Path.{sym, ◌∙◌}
-use Prim.Native.Nat.{◌-◌}
 use native.Mathlib.Omega.{arith}
 use Rattle.little_endian.specs.Bytes.{sample_at}
 use Rattle.little_endian.proofs.Samples.{same_none, same_step, same_no, same_yes}

@@ -1,6 +1,6 @@
 -- `little_endian::samples_within` meets its contract: the samples passed are at most `top` if `most`, their largest, is.
 use mathlib.Core.Path.{◌≡◌, ap, ◌∙◌}
-use Prim.Native.Nat.{ℕ, ◌-◌, ◌/◌}
+use Prim.Native.Nat.{ℕ, ◌/◌}
 use native.Mathlib.Omega.{arith}
 use lib.ListN.{length}
 use Rattle.integers.specs.Lists.{tabulate}

@@ -1,6 +1,6 @@
 -- `little_endian::write_samples` meets its contract: the samples that are left, written, make what is promised.
 use mathlib.Core.Path.{refl, ◌∙◌}
-use Prim.Native.Nat.{◌*◌, ◌-◌}
+use Prim.Native.Nat.{◌*◌}
 use native.Mathlib.Omega.{arith}
 use Rattle.little_endian.proofs.Samples.{write_step, write_end}
 use Rattle.little_endian.proofs.write_samples.Goals as goal

@@ -1,6 +1,6 @@
 -- `merging::cross_whole` meets its contract: after k turns, k places are laid down.
 use mathlib.Core.Path.{◌≡◌, refl, ◌∙◌, ap}
-use Prim.Native.Nat.{ℕ, ◌+◌, ◌-◌}
+use Prim.Native.Nat.{ℕ, ◌+◌}
 use native.Mathlib.Omega.{arith}
 use lib.IntN.{ℤ}
 use lib.ListN.{length-set}
@@ -24,12 +24,11 @@ pub whole_crossed-requires : goal.whole_crossed-requires
 whole_crossed-requires c = (c.requires.0, omega arith)
 
 pub loop-k-preserved : goal.loop-k-preserved
-loop-k-preserved c =
-    (
-      omega arith,
-      overwrite_step c.args.out.now 2 c.loop-k.k (Laid (goal.at.loop-k-preserved c).Start) (2 + c.loop-k.k) refl c.loop-k.invariant.1 (read_is w32 c.whole_crossed.type_inv c.whole_crossed.ensures) (omega arith),
-      simp length-set c.loop-k.invariant.2,
-    )
+loop-k-preserved c = (
+  omega arith,
+  overwrite_step c.args.out.now 2 c.loop-k.k (Laid (goal.at.loop-k-preserved c).Start) (2 + c.loop-k.k) refl c.loop-k.invariant.1 (read_is w32 c.whole_crossed.type_inv c.whole_crossed.ensures) (omega arith),
+  simp length-set c.loop-k.invariant.2,
+)
 
 pub shape_of-out : goal.shape_of-out
 shape_of-out c = c.loop-k.invariant.2

@@ -27,14 +27,13 @@ pub rest_part-requires-5 : goal.rest_part-requires-5
 rest_part-requires-5 c = read_small 805306368 (omega arith) c.requires.0.fifth c.args.k c.requires.1
 
 pub high_join-requires : goal.high_join-requires
-high_join-requires c =
-    (
-      rest_read c.args.x.now (c.args.starts.a + c.args.k) c.rest_part.ensures,
-      rest_read c.args.y.now (c.args.starts.b + c.args.k) c.rest_part-2.ensures,
-      rest_read c.args.x.now (c.args.starts.c + c.args.k) c.rest_part-3.ensures,
-      rest_read c.args.y.now (c.args.starts.d + c.args.k) c.rest_part-4.ensures,
-      rest_read c.args.x.now (c.args.starts.e + c.args.k) c.rest_part-5.ensures,
-    )
+high_join-requires c = (
+  rest_read c.args.x.now (c.args.starts.a + c.args.k) c.rest_part.ensures,
+  rest_read c.args.y.now (c.args.starts.b + c.args.k) c.rest_part-2.ensures,
+  rest_read c.args.x.now (c.args.starts.c + c.args.k) c.rest_part-3.ensures,
+  rest_read c.args.y.now (c.args.starts.d + c.args.k) c.rest_part-4.ensures,
+  rest_read c.args.x.now (c.args.starts.e + c.args.k) c.rest_part-5.ensures,
+)
 
 pub returns : goal.returns
 unfolding crossed_of

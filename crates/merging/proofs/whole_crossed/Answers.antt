@@ -9,14 +9,13 @@ use Rattle.merging.proofs.Merging.{part_is, whole_read}
 use Rattle.merging.proofs.whole_crossed.Goals as goal
 
 pub high_join-requires : goal.high_join-requires
-high_join-requires c =
-    (
-      whole_read c.requires.0.first c.args.k c.requires.1 c.whole_part.ensures,
-      whole_read c.requires.0.second c.args.k c.requires.1 c.whole_part-2.ensures,
-      whole_read c.requires.0.third c.args.k c.requires.1 c.whole_part-3.ensures,
-      whole_read c.requires.0.fourth c.args.k c.requires.1 c.whole_part-4.ensures,
-      whole_read c.requires.0.fifth c.args.k c.requires.1 c.whole_part-5.ensures,
-    )
+high_join-requires c = (
+  whole_read c.requires.0.first c.args.k c.requires.1 c.whole_part.ensures,
+  whole_read c.requires.0.second c.args.k c.requires.1 c.whole_part-2.ensures,
+  whole_read c.requires.0.third c.args.k c.requires.1 c.whole_part-3.ensures,
+  whole_read c.requires.0.fourth c.args.k c.requires.1 c.whole_part-4.ensures,
+  whole_read c.requires.0.fifth c.args.k c.requires.1 c.whole_part-5.ensures,
+)
 
 pub returns : goal.returns
 unfolding crossed_of

@@ -2,7 +2,6 @@
 use mathlib.Core.Path.{◌∙◌}
 use mathlib.Core.Bool.{cond, beq}
 use lib.IntN.{pos}
-use borrow.Author.Rules.{rules}
 use Rattle.neighbourhood.specs.Place.{around}
 use Rattle.neighbourhood.proofs.Places.{green_picked}
 use Rattle.neighbourhood.proofs.green_at.Goals as goal

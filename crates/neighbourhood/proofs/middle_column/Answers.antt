@@ -1,6 +1,5 @@
 -- `neighbourhood::middle_column` meets its contract.
 use mathlib.Core.Path.{refl}
-use borrow.Author.Rules.{rules}
 use Rattle.integers.specs.Lists.{tabulate}
 use Rattle.neighbourhood.proofs.middle_column.Goals as goal
 

@@ -1,7 +1,6 @@
 -- `packet::write_refusal` meets its contract: the fields' questions, then 6, 9 and 14.
 use mathlib.Core.Path.{sym}
 use mathlib.Core.Path.{◌≡◌, ap, ◌∙◌}
-use mathlib.Core.Bool.{true, false}
 use Prim.Native.Nat.{ℕ}
 use native.Mathlib.Omega.{arith}
 use Rattle.questions.specs.Settings.{ceiling_of}

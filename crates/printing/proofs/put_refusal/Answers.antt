@@ -3,7 +3,6 @@ use native.Mathlib.Omega.{arith}
 use Rattle.printing.specs.Text.{refusal}
 use Rattle.printing.proofs.Putting.{put_then, put_front}
 use Rattle.printing.proofs.Texts.{length-refusal}
-use borrow.Author.Rules.{rules}
 use Rattle.printing.proofs.put_refusal.Goals as goal
 
 pub returns : goal.returns

@@ -1,6 +1,5 @@
 -- `printing::put_rows` meets its contract: what puts the rows that are left puts them all.
 use mathlib.Core.Path.{refl, ◌∙◌}
-use Prim.Native.Nat.{◌-◌}
 use native.Mathlib.Omega.{arith}
 use Rattle.printing.proofs.Texts.{rows_step, rows_end}
 use Rattle.printing.proofs.put_rows.Goals as goal

@@ -27,12 +27,16 @@ slice_bounds-blue-end c = let k = known (goal.at.slice_bounds-blue-end c).Start 
 pub put_planes-requires : goal.put_planes-requires
 put_planes-requires c =
     let k = known (goal.at.put_planes-requires c).Start in
-    record { input_value = c.requires.input_value; f_value = c.requires.f_value; buffers = record {
-          mosaic_room = simp (length-take, length-drop) (omega (arith, k.few));
-          red_room = simp (length-take, length-drop) (omega (arith, k.few));
-          green_room = simp (length-take, length-drop) (omega (arith, k.few));
-          blue_room = simp (length-take, length-drop) (omega (arith, k.few));
-          work_room = omega (arith, k.few);
-          wide_room = omega (arith, k.few);
-          text_room = omega (arith, k.few);
-        } }
+    record {
+      input_value = c.requires.input_value;
+      f_value = c.requires.f_value;
+      buffers = record {
+        mosaic_room = simp (length-take, length-drop) (omega (arith, k.few));
+        red_room = simp (length-take, length-drop) (omega (arith, k.few));
+        green_room = simp (length-take, length-drop) (omega (arith, k.few));
+        blue_room = simp (length-take, length-drop) (omega (arith, k.few));
+        work_room = omega (arith, k.few);
+        wide_room = omega (arith, k.few);
+        text_room = omega (arith, k.few);
+      };
+    }

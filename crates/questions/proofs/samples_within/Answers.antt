@@ -1,6 +1,5 @@
 -- `questions::samples_within` meets its contract: the samples passed are at most `top` if `most`, their largest, is.
 use mathlib.Core.Path.{◌≡◌, refl, ap, ◌∙◌}
-use Prim.Native.Nat.{◌-◌}
 use native.Mathlib.Omega.{arith}
 use lib.ListN.{length, get_or}
 use Rattle.integers.proofs.Lists.{tabulate-get_or}

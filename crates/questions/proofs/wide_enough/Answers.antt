@@ -1,6 +1,6 @@
 -- `questions::wide_enough` meets its contract.
 use mathlib.Core.Path.{sym, ap}
-use mathlib.Core.Bool.{Bool, true, false}
+use mathlib.Core.Bool.{Bool}
 use Rattle.questions.specs.Lent.{wide_enough}
 use Rattle.questions.proofs.wide_enough.Goals as goal
 

@@ -1,6 +1,6 @@
 -- `rounds::clear` meets its contract: the wide work buffer is zeroed at two levels alone.
 use mathlib.Core.Path.{sym, ◌∙◌, ap}
-use mathlib.Core.Bool.{Bool, true, false}
+use mathlib.Core.Bool.{Bool}
 use native.Mathlib.Omega.{arith}
 use Rattle.questions.proofs.Asking.{wide_room}
 use Rattle.work_buffer.specs.Buffer.{zeroed, wide_zeroed}

@@ -1,6 +1,5 @@
 -- `rounds::planes_refusal` meets its contract: 10 of each plane.
 use mathlib.Core.Path.{sym, ◌∙◌}
-use mathlib.Core.Bool.{true, false}
 use Rattle.questions.proofs.Asking.{asking}
 use Rattle.rounds.proofs.planes_refusal.Goals as goal
 

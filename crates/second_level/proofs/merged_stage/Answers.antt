@@ -54,14 +54,17 @@ merge_along-requires c =
     let g = a.given in
     let lines = c.requires.width_in_bounds in
     let rings = c.requires.width_in_bounds_2 in
-    record { le_n = (
+    record {
+      le_n = (
         c.requires.sizes.0.width_from,
         c.requires.sizes.0.width_to,
         omega (arith, c.cross_whole.auto.out, lines.0),
         omega (arith, c.cross_rest.auto.out, lines.1),
         whole_run g.width a.whole.now (omega (arith, lines.0)) (crossing (goal.at.merge_along-requires c).After-five_slots-starts) c.cross_whole.ensures,
         rest_run g.width a.rest.now (omega (arith, lines.1)) a.apart2.now a.together2.now c.five_slots-starts.result c.cross_rest.ensures,
-      ); run = ((ready (goal.at.merge_along-requires c).After-five_slots-starts).1, (ready (goal.at.merge_along-requires c).After-five_slots-starts).2, slot_inside _ 5 _ _ (omega arith) rings.0, slot_inside _ 5 _ _ (omega arith) rings.1, slot_inside _ 5 _ _ (omega arith) rings.2) }
+      );
+      run = ((ready (goal.at.merge_along-requires c).After-five_slots-starts).1, (ready (goal.at.merge_along-requires c).After-five_slots-starts).2, slot_inside _ 5 _ _ (omega arith) rings.0, slot_inside _ 5 _ _ (omega arith) rings.1, slot_inside _ 5 _ _ (omega arith) rings.2);
+    }
 
 pub shape_of-whole : goal.shape_of-whole
 shape_of-whole c = c.merge_along.auto.whole ∙ c.cross_whole.auto.out

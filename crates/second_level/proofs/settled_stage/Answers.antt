@@ -57,8 +57,11 @@ pub returns-then-r-done : goal.returns-then-r-done
 returns-then-r-done c =
     let a = c.args in
     let g = a.given in
-    record { own_after = row_worked 9 g a.t c.done-r.ensures c.done.ensures c.if-r-done.true a.own.now (row_at g) (settled_row g a.least a.most a.own.now a.apart.now a.together.now a.rests.now)
-          (settled_laid g a.rests.now (found (goal.at.returns-then-r-done c).After-five_slots-starts).1 a.line.now (omega (arith, c.requires.sizes.2)) c.join_low.ensures (back c.ranges.least) (back c.ranges.most) (row (goal.at.returns-then-r-done c).After-five_slots-starts) c.five_slots-starts.ensures a.own.now a.apart.now a.together.now c.settle_line.ensures); as_long = shape_of-line c }
+    record {
+      own_after = row_worked 9 g a.t c.done-r.ensures c.done.ensures c.if-r-done.true a.own.now (row_at g) (settled_row g a.least a.most a.own.now a.apart.now a.together.now a.rests.now)
+          (settled_laid g a.rests.now (found (goal.at.returns-then-r-done c).After-five_slots-starts).1 a.line.now (omega (arith, c.requires.sizes.2)) c.join_low.ensures (back c.ranges.least) (back c.ranges.most) (row (goal.at.returns-then-r-done c).After-five_slots-starts) c.five_slots-starts.ensures a.own.now a.apart.now a.together.now c.settle_line.ensures);
+      as_long = shape_of-line c;
+    }
 
 pub returns-else-r-done : goal.returns-else-r-done
 returns-else-r-done c =

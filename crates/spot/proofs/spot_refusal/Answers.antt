@@ -1,6 +1,5 @@
 -- `spot::spot_refusal` meets its contract: 1 and 2, then 6 and 19.
 use mathlib.Core.Path.{sym, ◌∙◌}
-use mathlib.Core.Bool.{true, false}
 use native.Mathlib.Omega.{arith}
 use Rattle.questions.proofs.Asking.{asking, ask-first, ask_then, sizes_known}
 use Rattle.spot.proofs.spot_refusal.Goals as goal

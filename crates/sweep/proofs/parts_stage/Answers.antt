@@ -288,6 +288,9 @@ returns c =
     let high_line = ring_line high_split (given e) (level e) (source e) (row e) in
     let f = c.done-r.ensures in
     let g = c.done.ensures in
-    record { apart_after = ring_worked (level e).lag (given e) a.t f g (level e).slots (more e) a.apart.now (ring_apart (given e) (level e) (source e))
-          (laid.0 ∙ (λ i. overwrite a.apart.now at (w e) (apart_row (limit_is e i) (d e) (w e) low_line high_line))); together_after = ring_worked (level e).lag (given e) a.t f g (level e).slots (more e) a.together.now (ring_together (given e) (level e) (source e))
-          (laid.1 ∙ (λ i. overwrite a.together.now at (w e) (together_row (limit_is e i) (d e) (w e) low_line high_line))) }
+    record {
+      apart_after = ring_worked (level e).lag (given e) a.t f g (level e).slots (more e) a.apart.now (ring_apart (given e) (level e) (source e))
+          (laid.0 ∙ (λ i. overwrite a.apart.now at (w e) (apart_row (limit_is e i) (d e) (w e) low_line high_line)));
+      together_after = ring_worked (level e).lag (given e) a.t f g (level e).slots (more e) a.together.now (ring_together (given e) (level e) (source e))
+          (laid.1 ∙ (λ i. overwrite a.together.now at (w e) (together_row (limit_is e i) (d e) (w e) low_line high_line)));
+    }

@@ -1,7 +1,7 @@
 -- `sweep::project_rows` meets its contract: each step takes every stage one row further.
 use mathlib.Core.Path.{◌≡◌, refl, sym, ◌∙◌, subst}
 use mathlib.Core.List.{List}
-use Prim.Native.Nat.{ℕ, ◌+◌, ◌*◌, ◌-◌, ◌≤◌, ◌<◌}
+use Prim.Native.Nat.{ℕ, ◌+◌, ◌*◌, ◌≤◌, ◌<◌}
 use native.Mathlib.Omega.{arith}
 use lib.IntN.{ℤ}
 use lib.ListN.{length}
@@ -146,8 +146,7 @@ loop-t-preserved c =
     let q = (goal.at.loop-t-preserved c).After-parts_stage in
     let d = (goal.at.loop-t-preserved c).After-difference_stage in
     let a = c.args in
-    let v = c.loop-t.invariant in
-    (
+    let v = c.loop-t.invariant in (
       omega (arith, taken d),
       record {
         plane = settled_next a.given (read c.args.least) (read c.args.most) a.own.now a.guide.now c.requires.projectable.0 c.loop-t.t v.1.plane (apart_held q) (together_held q) c.settled_stage.ensures;

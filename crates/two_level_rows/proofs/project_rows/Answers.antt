@@ -1,7 +1,7 @@
 -- `two_level_rows::project_rows` meets its contract: each step takes every stage one row further.
 use mathlib.Core.Path.{◌≡◌, refl, sym, ◌∙◌, subst}
 use mathlib.Core.List.{List}
-use Prim.Native.Nat.{ℕ, ◌+◌, ◌-◌, ◌≤◌, ◌<◌}
+use Prim.Native.Nat.{ℕ, ◌+◌, ◌≤◌, ◌<◌}
 use native.Mathlib.Omega.{arith}
 use lib.IntN.{ℤ}
 use lib.ListN.{length}
@@ -126,8 +126,13 @@ parts_stage-requires c =
     let v = c.loop-t.invariant in
     let z = c.requires.width_in_bounds_3 in
     let e = sym (first_is s) in
-    record { sizes = ((projectable s).sizes, step l, subst Sound e (first_sound (g s) (second s) (least s) (most s) c.args.own.now c.args.guide.now (projectable s) (distance s))); ring_rows = (λ i. subst (λ (x : Level). RingRows (g s) x (ring d) (reached 1 (g s).height c.loop-t.t)) e
-            (first_ready (g s) (second s) (least s) (most s) c.args.own.now c.args.guide.now (projectable s) (distance s) c.loop-t.t (ring_held d) (as_long (ring_kept d) c.requires.width_in_bounds.0) i)); width_in_bounds = (as_long v.12 z.0, as_long v.13 z.1, as_long v.14 z.2, as_long v.15 z.3, as_long v.16 z.4); width_in_bounds_2 = (as_long v.5 c.requires.width_in_bounds.2, as_long v.6 c.requires.width_in_bounds.3) }
+    record {
+      sizes = ((projectable s).sizes, step l, subst Sound e (first_sound (g s) (second s) (least s) (most s) c.args.own.now c.args.guide.now (projectable s) (distance s)));
+      ring_rows = (λ i. subst (λ (x : Level). RingRows (g s) x (ring d) (reached 1 (g s).height c.loop-t.t)) e
+          (first_ready (g s) (second s) (least s) (most s) c.args.own.now c.args.guide.now (projectable s) (distance s) c.loop-t.t (ring_held d) (as_long (ring_kept d) c.requires.width_in_bounds.0) i));
+      width_in_bounds = (as_long v.12 z.0, as_long v.13 z.1, as_long v.14 z.2, as_long v.15 z.3, as_long v.16 z.4);
+      width_in_bounds_2 = (as_long v.5 c.requires.width_in_bounds.2, as_long v.6 c.requires.width_in_bounds.3);
+    }
 
 -- the first level's rings after its stage, and its line
 module _ (q : goal.After-parts_stage) where
@@ -428,5 +433,9 @@ returns c =
     let s = (goal.at.returns c).Start in
     let a = c.args in
     let v = c.loop-t.invariant in
-    record { own_after = all_projected (g s) (second s) (least s) (most s) a.own.now a.guide.now (projectable s) c.loop-t.t (omega (arith, c.loop-t-test.false)) v.1.plane
-          ∙ (λ j. with_projected (g s) (back c.ranges.second_limit j) (back c.ranges.least j) (back c.ranges.most j) a.own.now a.guide.now); as_long = (v.3, v.4, v.5, v.6, v.7, v.8, v.9, v.10, v.11); as_long_2 = (v.12, v.13, v.14, v.15, v.16) }
+    record {
+      own_after = all_projected (g s) (second s) (least s) (most s) a.own.now a.guide.now (projectable s) c.loop-t.t (omega (arith, c.loop-t-test.false)) v.1.plane
+          ∙ (λ j. with_projected (g s) (back c.ranges.second_limit j) (back c.ranges.least j) (back c.ranges.most j) a.own.now a.guide.now);
+      as_long = (v.3, v.4, v.5, v.6, v.7, v.8, v.9, v.10, v.11);
+      as_long_2 = (v.12, v.13, v.14, v.15, v.16);
+    }

@@ -1,7 +1,7 @@
 -- `two_levels::run` meets its contract: after n turns, the work buffer holds the working plane after n rounds.
 use mathlib.Core.Path.{◌≡◌, refl, sym, ◌∙◌, ap, subst}
 use mathlib.Core.Bool.{true}
-use Prim.Native.Nat.{ℕ, ◌+◌, ◌*◌, ◌-◌, ◌≤◌, ◌<◌}
+use Prim.Native.Nat.{ℕ, ◌+◌, ◌*◌, ◌≤◌}
 use native.Mathlib.Nat.{mul-le-mul}
 use native.Mathlib.Omega.{arith}
 use lib.Dec.{T, leb, leb→le}
@@ -110,10 +110,15 @@ project_rows-requires c =
     let a = c.args in
     let w = ap (λ (g : Given). g.width) c.given_of-given.ensures in
     let i = c.loop-n.invariant in
-    record { projectable = (
+    record {
+      projectable = (
         colour_projectable a.colour a.mosaic.now a.green.now c.loop-n.work c.given_of-given.ensures (threshold_small (goal.at.project_rows-requires c).Start) (workable l) (plane-kept l) (green_small (goal.at.project_rows-requires c).After-shared_slice_known-2-1),
         times_distance _ tt (goal.at.project_rows-requires c).After-widened-second_limit,
-      ); width_in_bounds = (ring_room 3 w i.3 c.requires.width_in_bounds.0, ring_room 5 w i.4 c.requires.width_in_bounds.1, ring_room 7 w i.5 c.requires.width_in_bounds.2, ring_room 7 w i.6 c.requires.width_in_bounds.3, ring_room 9 w i.7 c.requires.width_in_bounds.4, ring_room 9 w i.8 c.requires.width_in_bounds.5); width_in_bounds_2 = (ring_room 5 w i.9 c.requires.width_in_bounds_2.0, ring_room 5 w i.10 c.requires.width_in_bounds_2.1, ring_room 5 w i.11 c.requires.width_in_bounds_2.2); width_in_bounds_3 = (line_room w i.12 c.requires.width_in_bounds_3.0, line_room w i.13 c.requires.width_in_bounds_3.1, line_room w i.14 c.requires.width_in_bounds_3.2, line_room w i.15 c.requires.width_in_bounds_3.3, line_room w i.16 c.requires.width_in_bounds_3.4) }
+      );
+      width_in_bounds = (ring_room 3 w i.3 c.requires.width_in_bounds.0, ring_room 5 w i.4 c.requires.width_in_bounds.1, ring_room 7 w i.5 c.requires.width_in_bounds.2, ring_room 7 w i.6 c.requires.width_in_bounds.3, ring_room 9 w i.7 c.requires.width_in_bounds.4, ring_room 9 w i.8 c.requires.width_in_bounds.5);
+      width_in_bounds_2 = (ring_room 5 w i.9 c.requires.width_in_bounds_2.0, ring_room 5 w i.10 c.requires.width_in_bounds_2.1, ring_room 5 w i.11 c.requires.width_in_bounds_2.2);
+      width_in_bounds_3 = (line_room w i.12 c.requires.width_in_bounds_3.0, line_room w i.13 c.requires.width_in_bounds_3.1, line_room w i.14 c.requires.width_in_bounds_3.2, line_room w i.15 c.requires.width_in_bounds_3.3, line_room w i.16 c.requires.width_in_bounds_3.4);
+    }
 
 pub put_observed-requires : goal.put_observed-requires
 put_observed-requires c =

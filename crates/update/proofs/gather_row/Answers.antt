@@ -1,6 +1,6 @@
 -- `update::gather_row` meets its contract: after k turns, k samples are laid down.
 use mathlib.Core.Path.{◌≡◌, refl, ◌∙◌, ap}
-use Prim.Native.Nat.{ℕ, ◌+◌, ◌*◌, ◌-◌, ◌<◌}
+use Prim.Native.Nat.{ℕ, ◌+◌, ◌*◌, ◌<◌}
 use native.Mathlib.Omega.{arith}
 use lib.IntN.{ℤ}
 use lib.ListN.{length, length-set}
@@ -37,12 +37,11 @@ pub bounds-green-from : goal.bounds-green-from
 bounds-green-from c = let r = reach (goal.at.bounds-green-from c).In-loop-k in omega arith
 
 pub loop-k-preserved : goal.loop-k-preserved
-loop-k-preserved c =
-    (
-      omega arith,
-      overwrite_step c.args.work.now c.args.to c.loop-k.k (Row (goal.at.loop-k-preserved c).Start) (c.args.to + c.loop-k.k) refl c.loop-k.invariant.1 (unfold sample in read_is w32 c.widened.type_inv c.widened.ensures) (omega arith),
-      simp length-set c.loop-k.invariant.2,
-    )
+loop-k-preserved c = (
+  omega arith,
+  overwrite_step c.args.work.now c.args.to c.loop-k.k (Row (goal.at.loop-k-preserved c).Start) (c.args.to + c.loop-k.k) refl c.loop-k.invariant.1 (unfold sample in read_is w32 c.widened.type_inv c.widened.ensures) (omega arith),
+  simp length-set c.loop-k.invariant.2,
+)
 
 pub shape_of-work : goal.shape_of-work
 shape_of-work c = c.loop-k.invariant.2

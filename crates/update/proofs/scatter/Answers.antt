@@ -1,6 +1,6 @@
 -- `update::scatter` meets its contract: after i turns, i rows are put.
 use mathlib.Core.Path.{◌≡◌, refl, ◌∙◌, ap, subst}
-use Prim.Native.Nat.{ℕ, ◌+◌, ◌*◌, ◌-◌, ◌≤◌, ◌<◌}
+use Prim.Native.Nat.{ℕ, ◌+◌, ◌*◌, ◌≤◌, ◌<◌}
 use native.Mathlib.Nat.{zero-add, mul_comm}
 use native.Mathlib.Omega.{arith}
 use lib.Dec.{T}

@@ -1,6 +1,5 @@
 -- `update::update_refusal` meets its contract: 1, 2 and 3, then 6, 8, 9 and 10.
 use mathlib.Core.Path.{sym, ◌∙◌}
-use mathlib.Core.Bool.{true, false}
 use Prim.Native.Nat.{◌*◌, ◌≤◌, ◌<◌}
 use native.Mathlib.Omega.{arith}
 use Rattle.questions.proofs.Asking.{asking, ask-first, ask_then, sizes_known}

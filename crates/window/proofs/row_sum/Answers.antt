@@ -1,6 +1,6 @@
 -- `window::row_sum` meets its contract. The loop's invariant: the sum is that of the samples passed, each below 65,536.
 use mathlib.Core.Path.{◌≡◌, ap, ◌∙◌}
-use Prim.Native.Nat.{ℕ, ◌-◌}
+use Prim.Native.Nat.{ℕ}
 use native.Mathlib.Omega.{arith}
 use Rattle.window.specs.Window.{total}
 use Rattle.window.proofs.Totals.{total_none, total_more}

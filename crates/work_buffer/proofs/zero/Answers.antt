@@ -1,6 +1,6 @@
 -- `work_buffer::zero` meets its contract: after k turns, k numbers are 0.
 use mathlib.Core.Path.{◌≡◌, refl, ◌∙◌, ap}
-use Prim.Native.Nat.{ℕ, ◌-◌}
+use Prim.Native.Nat.{ℕ}
 use native.Mathlib.Omega.{arith}
 use lib.IntN.{pos}
 use lib.ListN.{length-set}
@@ -12,12 +12,11 @@ pub loop-k-init : goal.loop-k-init
 loop-k-init c = (omega arith, overwrite_none c.args.work.now 0 (λ j. pos 0), refl)
 
 pub loop-k-preserved : goal.loop-k-preserved
-loop-k-preserved c =
-    (
-      omega arith,
-      overwrite_step c.args.work.now 0 c.loop-k.k (λ j. pos 0) c.loop-k.k (omega arith) c.loop-k.invariant.1 refl (omega arith),
-      simp length-set c.loop-k.invariant.2,
-    )
+loop-k-preserved c = (
+  omega arith,
+  overwrite_step c.args.work.now 0 c.loop-k.k (λ j. pos 0) c.loop-k.k (omega arith) c.loop-k.invariant.1 refl (omega arith),
+  simp length-set c.loop-k.invariant.2,
+)
 
 pub shape_of-work : goal.shape_of-work
 shape_of-work c = c.loop-k.invariant.2

@@ -1,6 +1,6 @@
 -- `working_plane::observe_row` meets its contract: after k turns, k samples are put.
 use mathlib.Core.Path.{◌≡◌, refl, ◌∙◌, ap}
-use Prim.Native.Nat.{ℕ, ◌+◌, ◌*◌, ◌-◌, ◌<◌}
+use Prim.Native.Nat.{ℕ, ◌+◌, ◌*◌, ◌<◌}
 use native.Mathlib.Omega.{arith}
 use lib.IntN.{ℤ}
 use lib.ListN.{length, length-set}
@@ -45,12 +45,11 @@ pub bounds-work-at : goal.bounds-work-at
 bounds-work-at c = let r = reach (goal.at.bounds-work-at c).In-loop-k in omega arith
 
 pub loop-k-preserved : goal.loop-k-preserved
-loop-k-preserved c =
-    (
-      omega arith,
-      put_step c.args.work.now c.loop-k.k (At (goal.at.loop-k-preserved c).Start) (Row (goal.at.loop-k-preserved c).Start) (c.args.from + 2 * c.loop-k.k) refl c.loop-k.invariant.1 (unfold sample in read_is w32 c.widened.type_inv c.widened.ensures),
-      simp length-set c.loop-k.invariant.2,
-    )
+loop-k-preserved c = (
+  omega arith,
+  put_step c.args.work.now c.loop-k.k (At (goal.at.loop-k-preserved c).Start) (Row (goal.at.loop-k-preserved c).Start) (c.args.from + 2 * c.loop-k.k) refl c.loop-k.invariant.1 (unfold sample in read_is w32 c.widened.type_inv c.widened.ensures),
+  simp length-set c.loop-k.invariant.2,
+)
 
 pub shape_of-work : goal.shape_of-work
 shape_of-work c = c.loop-k.invariant.2

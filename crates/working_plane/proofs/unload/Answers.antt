@@ -1,6 +1,6 @@
 -- `working_plane::unload` meets its contract: after k turns, k numbers are unloaded.
 use mathlib.Core.Path.{◌≡◌, refl, sym, ◌∙◌, ap, subst}
-use Prim.Native.Nat.{ℕ, ◌-◌, ◌<◌}
+use Prim.Native.Nat.{ℕ, ◌<◌}
 use native.Mathlib.Omega.{arith}
 use lib.IntN.{pos, nat_abs}
 use lib.ListN.{length, length-set}
@@ -55,12 +55,11 @@ narrowed-requires c =
     (s.0, omega (arith, s.1))
 
 pub loop-k-preserved : goal.loop-k-preserved
-loop-k-preserved c =
-    (
-      omega arith,
-      overwrite_step c.args.plane.now 0 c.loop-k.k (Sample (goal.at.loop-k-preserved c).Start) c.loop-k.k (omega arith) c.loop-k.invariant.1 (c.narrowed.ensures ∙ ap nat_abs (clip (goal.at.loop-k-preserved c).After-clipped)) (omega arith),
-      simp length-set c.loop-k.invariant.2,
-    )
+loop-k-preserved c = (
+  omega arith,
+  overwrite_step c.args.plane.now 0 c.loop-k.k (Sample (goal.at.loop-k-preserved c).Start) c.loop-k.k (omega arith) c.loop-k.invariant.1 (c.narrowed.ensures ∙ ap nat_abs (clip (goal.at.loop-k-preserved c).After-clipped)) (omega arith),
+  simp length-set c.loop-k.invariant.2,
+)
 
 pub shape_of-plane : goal.shape_of-plane
 shape_of-plane c = c.loop-k.invariant.2
