@@ -55,7 +55,7 @@ pub fn compile(compiler: &[&str], source: &Path, program: &Path) {
     let library = in_repository("target/staticlib/libdemosaic_c.a");
     assert!(
         library.is_file(),
-        "the library {} is missing: run `rt staticlib demosaic_c` first",
+        "the library {} is missing: run `./run` first",
         library.display()
     );
     let output = Command::new(compiler[0])
