@@ -1,6 +1,6 @@
 -- `packet::write_refusal` meets its contract: the fields' questions, then 6, 9 and 14.
-use mathlib.Core.Path.{sym}
-use mathlib.Core.Path.{◌≡◌, ap, ◌∙◌}
+use mathlib.Core.Path.{◌≡◌, sym, ap, ◌∙◌}
+use mathlib.Core.Bool.{true}
 use Prim.Native.Nat.{ℕ}
 use native.Mathlib.Omega.{arith}
 use Rattle.questions.specs.Settings.{ceiling_of}
@@ -36,7 +36,8 @@ returns-then-not-within c =
 
 pub returns-then-room-length : goal.returns-then-room-length
 returns-then-room-length c =
-    let within = sym (scanned (goal.at.returns-then-room-length c).After-samples_within-within) ∙ c.if-not-within.false in
+    let scan = scanned (goal.at.returns-then-room-length c).After-samples_within-within in
+    let within : all_at_most (ceiling_of c.args.f.settings) c.args.samples.now ≡ true = cc in
     ask_then _ _ _ _ c.frame-number.ensures tt c.if-number-ne0.false (search asking)
 
 pub returns : goal.returns
