@@ -16,10 +16,9 @@ use Rattle.lines.specs.Lines.{Run, Runs, five}
 use Rattle.lines.proofs.Lines.{run_wider, five_range}
 use Rattle.projection.proofs.Parts.{along_inside}
 use Rattle.details.specs.Details.{from_place, Crossing, crossed}
-use Rattle.nested_floor.specs.NestedFloor.{settled_two}
+use Rattle.nested_floor.specs.NestedFloor.{settled_two, whole, rest}
 use Rattle.merging.specs.Merging.{crossed_of, settled_place}
 use Rattle.merging.proofs.Merging.{whole-crossed_range, rest-crossed_range}
-use Rattle.nested_floor.specs.NestedFloor.{whole, rest}
 use Rattle.rings.specs.declared.Given.{Given}
 use Rattle.rings.specs.Rows.{row_at, five_slots}
 use Rattle.rings.proofs.Rows.{laid_run, laid_at}

@@ -1,6 +1,5 @@
 -- `bank::bands_refusal` meets its contract: band after band.
-use mathlib.Core.Path.{sym}
-use mathlib.Core.Path.{◌≡◌, ◌∙◌, ap}
+use mathlib.Core.Path.{sym, ◌≡◌, ◌∙◌, ap}
 use mathlib.Core.Bool.{Bool}
 use mathlib.Core.List.{List, map}
 use lib.IntN.{ℤ, nat_abs}

@@ -6,14 +6,6 @@ use Rattle.neighbourhood.specs.Place.{around}
 use Rattle.neighbourhood.proofs.Places.{green_picked}
 use Rattle.neighbourhood.proofs.green_at.Goals as goal
 
--- NO NEED bounds-1-picked
--- index-1-picked : tie.Need-bounds-1-picked
--- index-1-picked c = search rules
-
--- NO NEED bounds-2-picked
--- index-2-picked : tie.Need-bounds-2-picked
--- index-2-picked c = search rules
-
 pub returns : goal.returns
 unfolding around
 returns c =

@@ -1,6 +1,5 @@
 -- `questions::buffers_refusal` meets its contract: 6, 7, 8, 18 and 9.
-use mathlib.Core.Path.{sym, ◌∙◌}
-use mathlib.Core.Path.{◌≡◌}
+use mathlib.Core.Path.{sym, ◌∙◌, ◌≡◌}
 use mathlib.Core.Bool.{true}
 use Rattle.questions.proofs.Asking.{asking}
 use Rattle.questions.specs.Lent.{wide_enough}

@@ -90,13 +90,6 @@ parts_stage-requires c =
 
 -- the rings of joined parts after theirs
 module _ (q : goal.After-parts_stage) where
-  -- the ring of differences is as it was
-  ring_still_held : let a = q.args in Held a.given 3 0 q.difference_stage.new.ring (difference (own_plane a.given a.own.now) (guide_plane a.given a.guide.now)) (q.loop-t.t + 1)
-  ring_still_held =
-      let a = q.args in
-      let v = q.loop-t.invariant in
-      difference_next a.given a.own.now (settled_plane a.given (read q.args.least) (read q.args.most) a.own.now a.guide.now) a.guide.now q.requires.projectable.0 3 q.loop-t.t v.1.plane q.loop-t.differences (as_long v.3 q.requires.projectable.1) v.1.differences q.difference_stage.ensures
-
   abbrev aparts : List ℤ
   aparts = q.parts_stage.new.apart
 
@@ -109,31 +102,34 @@ module _ (q : goal.After-parts_stage) where
   together_room : 5 * q.args.given.width ≤ length togethers
   together_room = as_long (q.parts_stage.auto.together ∙ q.loop-t.invariant.10) q.requires.width_in_bounds_2.1
 
-  apart_held : let a = q.args in Held a.given 5 1 aparts (apart_plane a.given.limit 1 a.given.width a.given.height (difference (own_plane a.given a.own.now) (guide_plane a.given a.guide.now))) (q.loop-t.t + 1)
-  apart_held =
+  apart_held : let a = q.args in Held a.given 3 0 q.difference_stage.new.ring (difference (own_plane a.given a.own.now) (guide_plane a.given a.guide.now)) (q.loop-t.t + 1)
+      → Held a.given 5 1 aparts (apart_plane a.given.limit 1 a.given.width a.given.height (difference (own_plane a.given a.own.now) (guide_plane a.given a.guide.now))) (q.loop-t.t + 1)
+  apart_held held =
       let a = q.args in
       let g = a.given in
       let v = q.loop-t.invariant in
       let ring = q.difference_stage.new.ring in
-      aparts_next g (read q.args.least) (read q.args.most) a.own.now a.guide.now q.requires.projectable.0 q.loop-t.t ring_still_held q.loop-t.apart (as_long v.9 q.requires.width_in_bounds_2.0) v.1.aparts
+      aparts_next g (read q.args.least) (read q.args.most) a.own.now a.guide.now q.requires.projectable.0 q.loop-t.t held q.loop-t.apart (as_long v.9 q.requires.width_in_bounds_2.0) v.1.aparts
       (subst (λ (x : Level). aparts ≡ ring_row_laid 5 1 g q.loop-t.t q.loop-t.apart (ring_apart g x ring)) (level_is g q.requires.projectable.0.limit) q.parts_stage.ensures.apart_after)
 
-  together_held : let a = q.args in Held a.given 5 1 togethers (together_plane a.given.limit 1 a.given.width a.given.height (difference (own_plane a.given a.own.now) (guide_plane a.given a.guide.now))) (q.loop-t.t + 1)
-  together_held =
+  together_held : let a = q.args in Held a.given 3 0 q.difference_stage.new.ring (difference (own_plane a.given a.own.now) (guide_plane a.given a.guide.now)) (q.loop-t.t + 1)
+      → Held a.given 5 1 togethers (together_plane a.given.limit 1 a.given.width a.given.height (difference (own_plane a.given a.own.now) (guide_plane a.given a.guide.now))) (q.loop-t.t + 1)
+  together_held held =
       let a = q.args in
       let g = a.given in
       let v = q.loop-t.invariant in
       let ring = q.difference_stage.new.ring in
-      togethers_next g (read q.args.least) (read q.args.most) a.own.now a.guide.now q.requires.projectable.0 q.loop-t.t ring_still_held q.loop-t.together (as_long v.10 q.requires.width_in_bounds_2.1) v.1.togethers
+      togethers_next g (read q.args.least) (read q.args.most) a.own.now a.guide.now q.requires.projectable.0 q.loop-t.t held q.loop-t.together (as_long v.10 q.requires.width_in_bounds_2.1) v.1.togethers
       (subst (λ (x : Level). togethers ≡ ring_row_laid 5 1 g q.loop-t.t q.loop-t.together (ring_together g x ring)) (level_is g q.requires.projectable.0.limit) q.parts_stage.ensures.together_after)
 
 pub settled_stage-requires : goal.settled_stage-requires
 settled_stage-requires c =
     let q = (goal.at.settled_stage-requires c).After-parts_stage in
+    let held = ring_held (goal.at.settled_stage-requires c).After-difference_stage in
     let l = (goal.at.settled_stage-requires c).At-loop-t in
     let a = c.args in
     let p = c.requires.projectable.0 in
-    record { sizes = (p.sizes, step l, ends_read c.requires.projectable.2); run = settled_ready a.given (read c.args.least) (read c.args.most) a.own.now a.guide.now p c.loop-t.t c.loop-t.invariant.1.plane (apart_held q) (together_held q) (apart_room q) (together_room q) }
+    record { sizes = (p.sizes, step l, ends_read c.requires.projectable.2); run = settled_ready a.given (read c.args.least) (read c.args.most) a.own.now a.guide.now p c.loop-t.t c.loop-t.invariant.1.plane (apart_held q held) (together_held q held) (apart_room q) (together_room q) }
 
 pub overflow_add-t : goal.overflow_add-t
 overflow_add-t c = omega (arith, step (goal.at.overflow_add-t c).At-loop-t)
@@ -145,14 +141,15 @@ pub loop-t-preserved : goal.loop-t-preserved
 loop-t-preserved c =
     let q = (goal.at.loop-t-preserved c).After-parts_stage in
     let d = (goal.at.loop-t-preserved c).After-difference_stage in
+    let held = ring_held d in
     let a = c.args in
     let v = c.loop-t.invariant in (
       omega (arith, taken d),
       record {
-        plane = settled_next a.given (read c.args.least) (read c.args.most) a.own.now a.guide.now c.requires.projectable.0 c.loop-t.t v.1.plane (apart_held q) (together_held q) c.settled_stage.ensures;
-        differences = ring_held d;
-        aparts = apart_held q;
-        togethers = together_held q;
+        plane = settled_next a.given (read c.args.least) (read c.args.most) a.own.now a.guide.now c.requires.projectable.0 c.loop-t.t v.1.plane (apart_held q held) (together_held q held) c.settled_stage.ensures;
+        differences = held;
+        aparts = apart_held q held;
+        togethers = together_held q held;
       },
       c.settled_stage.auto.own ∙ v.2,
       c.difference_stage.auto.ring ∙ v.3,
