@@ -1,27 +1,24 @@
 -- The laws of the bank's calls: what an accepted call knows, and what the two leave one after the other.
 -- Assumes nothing.
-use mathlib.Core.Path.{◌≡◌, sym, ◌∙◌, ap, subst}
-use mathlib.Core.Bool.{true, false}
+use mathlib.Core.Path.{◌≡◌, refl, sym, ◌∙◌, ap, subst}
+use mathlib.Core.Bool.{true}
 use mathlib.Core.List.{List, map}
-use Prim.Native.Nat.{ℕ, zero, suc, ◌+◌, ◌*◌, ◌/◌, ◌%◌, ◌≤◌, ◌<◌}
+use Prim.Native.Nat.{ℕ, ◌+◌, ◌*◌, ◌/◌, ◌%◌, ◌≤◌, ◌<◌}
 use native.Mathlib.Nat.{div-add-mod'}
 use native.Mathlib.Omega.{arith}
-use lib.Dec.{T, eqb, leb, ltb→lt}
-use lib.IntN.{ℤ, pos, negsuc, neg_ℤ, nat_abs, ◌-ℤ◌, ◌*ℤ◌, +ℤ_idl}
-use lib.Signed.{lt_z, non_neg}
+use lib.Dec.{eqb}
+use lib.IntN.{ℤ, pos, nat_abs, ◌*ℤ◌}
 use lib.ListN.{length}
-use borrow.Author.Tests.{le-leb, lt-leb, eq-eqb, eqb-true}
+use borrow.Author.Tests.{eq-eqb, eqb-true}
 use Rattle.integers.specs.Lists.{tabulate}
-use Rattle.integers.proofs.Tests.{is_true, true_is, never}
-use Rattle.integers.proofs.Order.{le_of_not_lt, abs-between}
-use Rattle.integers.proofs.Bounds.{abs_neg}
+use Rattle.integers.proofs.Tests.{is_true, true_is}
 use Rattle.integers.proofs.Lists.{length-tabulate, get_or-tabulate, tabulate_cong, tabulate-get_or, map-tabulate}
 use Rattle.planes.specs.Planes.{listing, plane_of, Sizes}
 use Rattle.planes.specs.Lists.{value}
 use Rattle.planes.proofs.Planes.{row_inside, column_inside, place_inside, length-listing, plane_of-listing, listing_agree}
 use Rattle.questions.specs.Questions.{ask, all_at_most, size_questions}
-use Rattle.questions.specs.Calls.{number_of_answer, Result}
-use Rattle.questions.specs.declared.Answer.{Answer}
+use Rattle.questions.specs.Refusals.{Answer, number_of}
+use Rattle.questions.specs.Calls.{Outcome}
 use Rattle.questions.proofs.Asking.{all_yes, all_yes_split, ask_zero, between_yes, sizes_is, all_at_most_at, all_at_most_by}
 use Rattle.questions.proofs.Answering.{new_left}
 use Rattle.filters.specs.Bank.{Bands, split}
@@ -30,26 +27,6 @@ use Rattle.filters.proofs.Ranges.{split_range}
 use Rattle.filters.proofs.Turned.{join_commutes}
 use Rattle.bank.specs.Planes.{Plane, plane, bands_of}
 use Rattle.bank.specs.Calls.{bands, band_lengths, to_split, to_join, splitting_questions, split_questions, joining_questions, join_questions, split_lists, join_list, split_call, join_call}
-
--- ---- 15, of one value, by the two tests
-pub beyond_below : (most v : ℤ) → T (non_neg most) → lt_z v (pos 0 -ℤ most) ≡ true → leb (nat_abs v) (nat_abs most) ≡ false
-beyond_below (negsuc m) v s t = absurd s
-beyond_below (pos m) v s t = lt-leb (nat_abs v) m (go m v (ap (lt_z v) (sym (+ℤ_idl (neg_ℤ (pos m)))) ∙ t))
-  where
-    go : (m : ℕ) (v : ℤ) → lt_z v (neg_ℤ (pos m)) ≡ true → m < nat_abs v
-    go zero (pos a) t = absurd (let h : a < 0 = ltb→lt a 0 (true_is t) in omega arith)
-    go (suc m) (pos a) t = never (sym t)
-    go zero (negsuc a) t = omega arith
-    go (suc m) (negsuc a) t = let h : m < a = ltb→lt m a (true_is t) in omega arith
-
-pub beyond_above : (most v : ℤ) → T (non_neg most) → lt_z most v ≡ true → leb (nat_abs v) (nat_abs most) ≡ false
-beyond_above (negsuc m) v s t = absurd s
-beyond_above (pos m) (pos a) s t = lt-leb a m (ltb→lt m a (true_is t))
-beyond_above (pos m) (negsuc a) s t = never (sym t)
-
-pub not_beyond : (most v : ℤ) → T (non_neg most) → lt_z v (pos 0 -ℤ most) ≡ false → lt_z most v ≡ false → leb (nat_abs v) (nat_abs most) ≡ true
-not_beyond (negsuc m) v s t u = absurd s
-not_beyond (pos m) v s t u = le-leb (nat_abs v) m (abs-between (le_of_not_lt v (neg_ℤ (pos m)) (ap (lt_z v) (sym (+ℤ_idl (neg_ℤ (pos m)))) ∙ t)) (le_of_not_lt (pos m) v u) (omega (arith, abs_neg (pos m))) (omega arith))
 
 -- ---- what an accepted call knows
 -- how far from 0 the values are, one by one
@@ -75,9 +52,9 @@ pub record Splittable (w h : ℕ) (given : List ℤ) (rooms : Bands ℕ) : Type 
   pub room3 : rooms.band3 ≡ w * h
   pub room4 : rooms.band4 ≡ w * h
 
-pub splittable : (w h : ℕ) (given : List ℤ) (rooms : Bands ℕ) (n : ℕ) → n ≡ ask (split_questions w h given rooms) → n ≡ 0 → Splittable w h given rooms
-splittable w h given rooms n e z =
-    let y = all_yes_split (size_questions 1 w h) (splitting_questions (w * h) given rooms) (all_yes (split_questions w h given rooms) tt n e z) in
+pub splittable : (w h : ℕ) (given : List ℤ) (rooms : Bands ℕ) → 0 ≡ ask (split_questions w h given rooms) → Splittable w h given rooms
+splittable w h given rooms e =
+    let y = all_yes_split (size_questions 1 w h) (splitting_questions (w * h) given rooms) (all_yes (split_questions w h given rooms) tt 0 e refl) in
     let q = y.1 in
     record {
       sizes = sizes_is 1 w h y.0;
@@ -96,9 +73,9 @@ pub record Joinable (w h : ℕ) (given : Bands (List ℤ)) (room : ℕ) : Type 0
   pub plane4 : Plane to_join given.band4 w h
   pub buffer : room ≡ w * h
 
-pub joinable : (w h : ℕ) (given : Bands (List ℤ)) (room n : ℕ) → n ≡ ask (join_questions w h given room) → n ≡ 0 → Joinable w h given room
-joinable w h given room n e z =
-    let y = all_yes_split (size_questions 1 w h) (joining_questions (w * h) given room) (all_yes (join_questions w h given room) tt n e z) in
+pub joinable : (w h : ℕ) (given : Bands (List ℤ)) (room : ℕ) → 0 ≡ ask (join_questions w h given room) → Joinable w h given room
+joinable w h given room e =
+    let y = all_yes_split (size_questions 1 w h) (joining_questions (w * h) given room) (all_yes (join_questions w h given room) tt 0 e refl) in
     let q = y.1 in
     let v = q.1.1.1.1.1 in
     record {
@@ -190,16 +167,16 @@ module _ (w h : ℕ) (given : List ℤ) (z : Sizes 1 w h) (p : Plane to_split gi
           at f = plane_of-listing (pos 0) w h (λ i j. f (split 1 w h (plane w given) i j)) r c hr hc
 
 -- Where split is accepted and the sums have room, join of what split leaves is accepted, and leaves 1,024 times the plane.
-pub split_then_join : (w h : ℕ) (given : List ℤ) (before : Bands (List ℤ)) (r : Answer) (after : Bands (List ℤ)) → Result (split_call w h given before) r after → number_of_answer r ≡ 0
-    → (sums : List ℤ) (s : Answer) (last : List ℤ) → Result (join_call w h after sums) s last → length sums ≡ w * h
-    → (number_of_answer s ≡ 0) × (last ≡ map (λ x. pos 1024 *ℤ x) given)
+pub split_then_join : (w h : ℕ) (given : List ℤ) (before : Bands (List ℤ)) (r : Answer) (after : Bands (List ℤ)) → Outcome (split_call w h given before) r after → number_of r ≡ 0
+    → (sums : List ℤ) (s : Answer) (last : List ℤ) → Outcome (join_call w h after sums) s last → length sums ≡ w * h
+    → (number_of s ≡ 0) × (last ≡ map (λ x. pos 1024 *ℤ x) given)
 split_then_join w h given before r after p z sums s last q e = (
   q.answer.number ∙ accepts,
   new_left (join_call w h after sums) q.leaves accepts ∙ ap (join_list w h) laid ∙ joined_again w h given k.sizes k.plane,
 )
   where
     k : Splittable w h given (band_lengths before)
-    k = splittable w h given (band_lengths before) (number_of_answer r) p.answer.number z
+    k = splittable w h given (band_lengths before) (sym z ∙ p.answer.number)
 
     laid : after ≡ split_lists w h given
     laid = new_left (split_call w h given before) p.leaves (sym p.answer.number ∙ z)

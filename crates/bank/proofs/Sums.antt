@@ -10,8 +10,8 @@ use Rattle.integers.proofs.Lists.{get_or-tabulate}
 use Rattle.planes.specs.Planes.{listing, plane_of}
 use Rattle.planes.specs.Lists.{value}
 use Rattle.planes.proofs.Planes.{row_inside, column_inside, place_inside, length-listing}
-use Rattle.questions.specs.Calls.{number_of_answer, Result}
-use Rattle.questions.specs.declared.Answer.{Answer}
+use Rattle.questions.specs.Refusals.{Answer, number_of}
+use Rattle.questions.specs.Calls.{Outcome}
 use Rattle.questions.proofs.Answering.{new_left}
 use Rattle.filters.specs.Bank.{Bands, join}
 use Rattle.filters.proofs.Ranges.{Within, join_range}
@@ -39,8 +39,8 @@ list_within w h given room j k b =
     sums = join 1 w h (bands_of w given)
 
 -- Every sum that an accepted join call leaves lies within ±75,479,040.
-pub sums_in_range : (w h : ℕ) (given : Bands (List ℤ)) (before : List ℤ) (r : Answer) (after : List ℤ) → Result (join_call w h given before) r after → number_of_answer r ≡ 0
+pub sums_in_range : (w h : ℕ) (given : Bands (List ℤ)) (before : List ℤ) (r : Answer) (after : List ℤ) → Outcome (join_call w h given before) r after → number_of r ≡ 0
     → (k : ℕ) → k < length after → nat_abs (value after k) ≤ sum_within
 sums_in_range w h given before r after p z =
     subst (λ (l : List ℤ). (k : ℕ) → k < length l → nat_abs (value l k) ≤ sum_within) (sym (new_left (join_call w h given before) p.leaves (sym p.answer.number ∙ z)))
-    (list_within w h given (length before) (joinable w h given (length before) (number_of_answer r) p.answer.number z))
+    (list_within w h given (length before) (joinable w h given (length before) (sym z ∙ p.answer.number)))

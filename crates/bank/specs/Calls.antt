@@ -3,7 +3,6 @@ use Rattle.std.specs.Prelude.{List, [], ◌∷◌, ◌++◌, map, ℕ, ◌*◌, 
 use Rattle.planes.specs.Planes.{listing}
 use Rattle.questions.specs.Questions.{Question, question, all_at_most, size_questions}
 use Rattle.questions.specs.Calls.{Call, plain_call}
-use Rattle.questions.specs.declared.Answer.{Answer}
 use Rattle.filters.specs.Bank.{Bands, split, join}
 use Rattle.bank.specs.Planes.{plane, bands_of}
 
@@ -69,9 +68,9 @@ join_list w h given = listing w h (join 1 w h (bands_of w given))
 
 -- ---- the calls
 -- split, given a plane and four buffers that held `before`: they hold its bands then
-abbrev pub split_call : ℕ → ℕ → List ℤ → Bands (List ℤ) → Call Answer (Bands (List ℤ))
+abbrev pub split_call : ℕ → ℕ → List ℤ → Bands (List ℤ) → Call (Unit {0}) (Bands (List ℤ))
 split_call width height given before = plain_call (split_questions width height given (band_lengths before)) (split_lists width height given) before
 
 -- join, given four bands and a buffer that held `before`: it holds their sums then
-abbrev pub join_call : ℕ → ℕ → Bands (List ℤ) → List ℤ → Call Answer (List ℤ)
+abbrev pub join_call : ℕ → ℕ → Bands (List ℤ) → List ℤ → Call (Unit {0}) (List ℤ)
 join_call width height given before = plain_call (join_questions width height given (length before)) (join_list width height given) before

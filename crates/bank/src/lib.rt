@@ -7,25 +7,20 @@ ghost use Rattle.integers.specs.Lists.{overwrite};
 ghost use Rattle.planes.specs.Planes.{listing, Sizes};
 ghost use Rattle.questions.specs.Settings.{ceiling};
 ghost use Rattle.questions.specs.Questions.{ask, all_at_most};
-ghost use Rattle.questions.specs.Calls.{Result};
+ghost use Rattle.questions.specs.Refusals.{number_of};
+ghost use Rattle.questions.specs.Calls.{Outcome};
 ghost use Rattle.filters.specs.Bank.{Distance, split as split_plane, join as join_bands, brought_back};
 ghost use Rattle.bank.specs.Planes.{Plane, plane, bands_of};
 ghost use Rattle.bank.specs.Calls.{bands, to_split, to_join, values_questions, split_questions, join_questions, split_call, join_call};
 
-use questions::Answer;
+use questions::Refusal;
 
-// 1 where a value is farther from 0 than `most`, else what was found before.
-fn marked(most: i32, value: i32, found: u32) -> u32
+// Whether a value is no farther from 0 than `most`.
+fn is_within(most: i32, value: i32) -> bool
     requires { Distance most }
-    ensures { result ≡ cond (leb (nat_abs value) (nat_abs most)) found 1 }
+    ensures { result ≡ leb (nat_abs value) (nat_abs most) }
 {
-    if value < 0 - most {
-        return 1;
-    }
-    if most < value {
-        return 1;
-    }
-    found
+    -most <= value && value <= most
 }
 
 // Question 15: whether no value is farther from 0 than `most`. All are looked at, even after one that is: only so is this a loop
@@ -34,16 +29,15 @@ fn values_within(most: i32, values: &[i32]) -> bool
     requires { Distance most }
     ensures { result ≡ all_at_most (nat_abs most) (map nat_abs values.now) }
 {
-    let mut found = 0;
-    let mut i = 0;
-    while i < values.len() {
-        found = marked(most, values[i], found);
-        i += 1;
+    let mut within = true;
+    for value in values {
+        within &= is_within(most, *value);
     }
-    found == 0
+    within
 }
 
 // Row r of the four bands: along the columns into the padded lines `low` and `high`, then along the row. The two lines are scratch.
+// Lent lists go one by one (docs/DECISIONS.md, "Lent lists").
 fn split_row(
     given: &[i32],
     width: usize,
@@ -73,6 +67,7 @@ fn split_row(
 }
 
 // All rows of the four bands.
+// Lent lists go one by one (docs/DECISIONS.md, "Lent lists").
 fn split_rows(
     given: &[i32],
     width: usize,
@@ -92,17 +87,15 @@ fn split_rows(
     ensures band3_after { band3.new ≡ listing width height (λ r c. (split_plane 1 width height (plane width given.now) r c).band3) }
     ensures band4_after { band4.new ≡ listing width height (λ r c. (split_plane 1 width height (plane width given.now) r c).band4) }
 {
-    let mut r = 0;
-    while r < height {
+    for r in 0..height {
         split_row(
             given, width, height, r, low, high, band1, band2, band3, band4,
         );
-        r += 1;
     }
 }
 
 // Questions 1, 2, 6, 7 and 15 of split, of bands that have room for so many numbers each.
-fn split_refusal(
+fn ask_split(
     width: usize,
     height: usize,
     given: &[i32],
@@ -110,33 +103,30 @@ fn split_refusal(
     room2: usize,
     room3: usize,
     room4: usize,
-) -> u32
-    ensures { result ≡ ask (split_questions width height given.now (bands room1 room2 room3 room4)) }
+) -> Result<(), Refusal>
+    ensures { number_of result ≡ ask (split_questions width height given.now (bands room1 room2 room3 room4)) }
 {
-    let number = questions::sizes(1, width, height);
-    if number != 0 {
-        return number;
-    }
+    questions::ask_sizes(1, width, height)?;
     let count = width * height;
     if given.len() != count {
-        return 6;
+        return Err(Refusal::GivenLength);
     }
     if room1 != count {
-        return 7;
+        return Err(Refusal::FilledLength);
     }
     if room2 != count {
-        return 7;
+        return Err(Refusal::FilledLength);
     }
     if room3 != count {
-        return 7;
+        return Err(Refusal::FilledLength);
     }
     if room4 != count {
-        return 7;
+        return Err(Refusal::FilledLength);
     }
     if !values_within(8190, given) {
-        return 15;
+        return Err(Refusal::BankValue);
     }
-    0
+    Ok(())
 }
 
 // Splits a plane of width · height numbers into four bands of exactly as many.
@@ -148,10 +138,10 @@ pub fn split(
     band2: &mut [i32],
     band3: &mut [i32],
     band4: &mut [i32],
-) -> Answer
-    ensures { Result (split_call width height plane.now (bands band1.old band2.old band3.old band4.old)) result (bands band1.new band2.new band3.new band4.new) }
+) -> Result<(), Refusal>
+    ensures { Outcome (split_call width height plane.now (bands band1.old band2.old band3.old band4.old)) result (bands band1.new band2.new band3.new band4.new) }
 {
-    let refusal = split_refusal(
+    ask_split(
         width,
         height,
         plane,
@@ -159,20 +149,18 @@ pub fn split(
         band2.len(),
         band3.len(),
         band4.len(),
-    );
-    if refusal != 0 {
-        return Answer::Refused(refusal);
-    }
+    )?;
     let mut low = [0i32; 2050];
     let mut high = [0i32; 2050];
     split_rows(
         plane, width, height, &mut low, &mut high, band1, band2, band3, band4,
     );
-    Answer::Accepted
+    Ok(())
 }
 
 // Row r of the joined sums: along the columns, bands 1 and 3 into the padded line `low` and bands 2 and 4 into `high`, then along
 // the row. The two lines are scratch.
+// Lent lists go one by one (docs/DECISIONS.md, "Lent lists").
 fn join_row(
     band1: &[i32],
     band2: &[i32],
@@ -207,6 +195,7 @@ fn join_row(
 }
 
 // All rows of the joined sums.
+// Lent lists go one by one (docs/DECISIONS.md, "Lent lists").
 fn join_rows(
     band1: &[i32],
     band2: &[i32],
@@ -222,37 +211,41 @@ fn join_rows(
     requires width_in_bounds { (width + 4 ≤ length low.old) × (width + 4 ≤ length high.old) × (length sums.old ≡ width * height) }
     ensures { sums.new ≡ listing width height (join_bands 1 width height (bands_of width (bands band1.now band2.now band3.now band4.now))) }
 {
-    let mut r = 0;
-    while r < height {
+    for r in 0..height {
         join_row(
             band1, band2, band3, band4, width, height, r, low, high, sums,
         );
-        r += 1;
     }
 }
 
-// Question 15 of the four bands: 15 where a value is farther from 0 than `most`, else 0.
-fn bands_refusal(most: i32, band1: &[i32], band2: &[i32], band3: &[i32], band4: &[i32]) -> u32
+// Question 15 of the four bands: no value is farther from 0 than `most`. They come one by one, as to the call that asks.
+fn ask_bands(
+    most: i32,
+    band1: &[i32],
+    band2: &[i32],
+    band3: &[i32],
+    band4: &[i32],
+) -> Result<(), Refusal>
     requires { Distance most }
-    ensures { result ≡ ask (values_questions (nat_abs most) (bands band1.now band2.now band3.now band4.now)) }
+    ensures { number_of result ≡ ask (values_questions (nat_abs most) (bands band1.now band2.now band3.now band4.now)) }
 {
     if !values_within(most, band1) {
-        return 15;
+        return Err(Refusal::BankValue);
     }
     if !values_within(most, band2) {
-        return 15;
+        return Err(Refusal::BankValue);
     }
     if !values_within(most, band3) {
-        return 15;
+        return Err(Refusal::BankValue);
     }
     if !values_within(most, band4) {
-        return 15;
+        return Err(Refusal::BankValue);
     }
-    0
+    Ok(())
 }
 
 // Questions 1, 2, 6, 7 and 15 of join, of sums that have room for so many numbers.
-fn join_refusal(
+fn ask_join(
     width: usize,
     height: usize,
     band1: &[i32],
@@ -260,30 +253,27 @@ fn join_refusal(
     band3: &[i32],
     band4: &[i32],
     room: usize,
-) -> u32
-    ensures { result ≡ ask (join_questions width height (bands band1.now band2.now band3.now band4.now) room) }
+) -> Result<(), Refusal>
+    ensures { number_of result ≡ ask (join_questions width height (bands band1.now band2.now band3.now band4.now) room) }
 {
-    let number = questions::sizes(1, width, height);
-    if number != 0 {
-        return number;
-    }
+    questions::ask_sizes(1, width, height)?;
     let count = width * height;
     if band1.len() != count {
-        return 6;
+        return Err(Refusal::GivenLength);
     }
     if band2.len() != count {
-        return 6;
+        return Err(Refusal::GivenLength);
     }
     if band3.len() != count {
-        return 6;
+        return Err(Refusal::GivenLength);
     }
     if band4.len() != count {
-        return 6;
+        return Err(Refusal::GivenLength);
     }
     if room != count {
-        return 7;
+        return Err(Refusal::FilledLength);
     }
-    bands_refusal(131040, band1, band2, band3, band4)
+    ask_bands(131040, band1, band2, band3, band4)
 }
 
 // Joins four bands of width · height numbers each into as many sums, 1,024 times the paper's.
@@ -295,19 +285,16 @@ pub fn join(
     band3: &[i32],
     band4: &[i32],
     sums: &mut [i32],
-) -> Answer
-    ensures { Result (join_call width height (bands band1.now band2.now band3.now band4.now) sums.old) result sums.new }
+) -> Result<(), Refusal>
+    ensures { Outcome (join_call width height (bands band1.now band2.now band3.now band4.now) sums.old) result sums.new }
 {
-    let refusal = join_refusal(width, height, band1, band2, band3, band4, sums.len());
-    if refusal != 0 {
-        return Answer::Refused(refusal);
-    }
+    ask_join(width, height, band1, band2, band3, band4, sums.len())?;
     let mut low = [0i32; 2052];
     let mut high = [0i32; 2052];
     join_rows(
         band1, band2, band3, band4, width, height, &mut low, &mut high, sums,
     );
-    Answer::Accepted
+    Ok(())
 }
 
 // (sum + 512) whole-divided by 1,024, of any sum: by 512, one more, and halved, so that nothing wraps.
@@ -322,5 +309,6 @@ pub fn bring_back(sum: i32) -> u16
     ensures { result ≡ brought_back ceiling sum }
 {
     let quotient = rounded_quotient(sum);
+    // it fits, as is proved; `u16::try_from` would test it again
     filters::clipped(quotient, 0, 4095) as u16
 }

@@ -3,12 +3,12 @@ use mathlib.Core.Path.{◌≡◌, refl, sym, ◌∙◌, ap, subst}
 use mathlib.Core.List.{[], ◌∷◌}
 use Prim.Native.Nat.{ℕ, zero, suc, ◌+◌, ◌*◌, ◌-◌, ◌/◌, ◌%◌, ◌≤◌, ◌<◌, min, max}
 use native.Mathlib.Decide.{dec_lt, dec_le}
-use native.Mathlib.Nat.{mod-lt, mod-eq_of_lt, add-mod_right, mod-add-div', div-add-mod', mod-one, zero-mod, mod_self, suc-mul, add-zero, zero-add}
+use native.Mathlib.Nat.{mod-lt, mod-eq_of_lt, add-mod_right, mod-add-div', div-add-mod', mod-one, zero-mod, mod_self, suc-mul, add-zero}
 use native.Mathlib.Omega.{arith}
 use lib.Arith.{digits_mod}
 use lib.IntN.{ℤ, pos, negsuc, neg_ℤ, nat_abs, ◌+ℤ◌, ◌-ℤ◌}
 use borrow.Author.Tests.{lt-ltb, le-ltb}
-use Rattle.integers.proofs.Bounds.{abs_neg, minus_pos, minus_neg}
+use Rattle.integers.proofs.Bounds.{abs_neg, minus_pos, minus_neg, abs_minus}
 use Rattle.integers.proofs.Linear.{linear, x₀, x₁, x₂, neg, ◌⊕◌, ◌⊖◌}
 use Rattle.border.specs.Border.{reflect, until_inside}
 
@@ -264,11 +264,8 @@ pub reflect_high : (n i : ℕ) → 2 ≤ n → n ≤ i % (2 * (n - 1)) → refle
 reflect_high n i h l = reflect_is n (pos i) ∙ ap (λ (p : ℕ). fold n (i % p)) (period_is n h) ∙ fold_high n (i % (2 * (n - 1))) l
 
 -- and i − b by how far apart the two are
-pub reflect_forth : (n i b : ℕ) → b ≤ i → reflect n (pos (i - b)) ≡ reflect n (pos i -ℤ pos b)
-reflect_forth n i b h = ap (reflect n) (sym (minus_pos i b h))
-
-pub reflect_back : (n i b : ℕ) → i < b → reflect n (pos (b - i)) ≡ reflect n (pos i -ℤ pos b)
-reflect_back n i b h = ap (λ (m : ℕ). reflect n (pos m)) (omega arith) ∙ reflect_neg n (negsuc (b - suc i)) ∙ ap (reflect n) (sym (minus_neg i b h))
+pub reflect_apart : (n i b : ℕ) → reflect n (pos ((i - b) + (b - i))) ≡ reflect n (pos i -ℤ pos b)
+reflect_apart n i b = ap (λ (k : ℕ). reflect n (pos k)) (sym (abs_minus i b)) ∙ reflect-abs n (pos i -ℤ pos b)
 
 -- ---- a place k steps away means a place at most k steps away
 -- a remainder goes on by one, or begins again
@@ -316,8 +313,12 @@ pub reflect_before : (n i k : ℕ) → i < n → (i ≤ reflect n (pos i -ℤ po
 reflect_before n i k h = go (dec_le k i)
   where
     go : Dec (k ≤ i) → (i ≤ reflect n (pos i -ℤ pos k) + k) × (reflect n (pos i -ℤ pos k) ≤ i + k)
-    go (yes b) = let e : reflect n (pos i -ℤ pos k) ≡ i - k = sym (reflect_forth n i k b) ∙ reflect_inside n (i - k) (omega arith) in (omega arith, omega arith)
+    go (yes b) =
+        let d : (i - k) + (k - i) ≡ i - k = omega arith in
+        let e : reflect n (pos i -ℤ pos k) ≡ i - k = sym (reflect_apart n i k) ∙ ap (λ (x : ℕ). reflect n (pos x)) d ∙ reflect_inside n (i - k) (omega arith) in
+        (omega arith, omega arith)
     go (no b) =
         let q = reflect-after n 0 (k - i) (omega arith) in
-        let e : reflect n (pos (0 + (k - i))) ≡ reflect n (pos i -ℤ pos k) = ap (λ (x : ℕ). reflect n (pos x)) (zero-add (k - i)) ∙ reflect_back n i k (omega arith) in
+        let d : 0 + (k - i) ≡ (i - k) + (k - i) = omega arith in
+        let e : reflect n (pos (0 + (k - i))) ≡ reflect n (pos i -ℤ pos k) = ap (λ (x : ℕ). reflect n (pos x)) d ∙ reflect_apart n i k in
         (omega arith, omega (arith, q.1))

@@ -20,14 +20,10 @@ pub fn reflected(n: usize, i: usize) -> usize
     if m < n { m } else { period - m }
 }
 
-// The place that the index `back` places before i means.
+// The place that the index `back` places before i means: the reflection is even, so only the distance counts.
 pub fn reflected_before(n: usize, i: usize, back: usize) -> usize
     requires { (1 ≤ n) × (n ≤ 2 ^ 62) }
     ensures { (result ≡ reflect n (pos i -ℤ pos back)) × (result < n) }
 {
-    if back <= i {
-        reflected(n, i - back)
-    } else {
-        reflected(n, back - i)
-    }
+    reflected(n, i.abs_diff(back))
 }

@@ -6,60 +6,78 @@ use Prim.Native.Nat.{ℕ, zero, suc}
 use native.Mathlib.Omega.{arith}
 use Rattle.planes.specs.Planes.{Frame}
 use Rattle.questions.specs.Questions.{ask}
-use Rattle.questions.specs.Calls.{if_accepted, Result}
+use Rattle.std.proofs.Common.{Result, Ok, Err, length}
+use Rattle.questions.specs.Refusals.{number_of}
+use Rattle.questions.specs.Calls.{if_accepted, Outcome}
+use Rattle.questions.specs.declared.Shape.{Shape}
+use Rattle.questions.specs.declared.Refusal.{Refusal}
+use Rattle.questions.specs.declared.Refusal.TheVariants as why
+use Rattle.questions.proofs.Answering.{Found, none, refused, found-end, found-first, refusal_positive}
 use Rattle.turns.specs.Frames.{turn_frame}
-use Rattle.turns.specs.Turning.{number_of_frame, accepted_as}
-use Rattle.turns.specs.declared.TurnedFrame.{TurnedFrame}
-use Rattle.turns.specs.declared.TurnedFrame.TheVariants.{Refused}
+use Rattle.turns.specs.Turning.{turn_questions, shape_of}
 use Rattle.finishing.specs.Turnings.{TurnRun, frame_after, TurnHistory, standing, if_turned, accepted_turns}
 use Rattle.demand_3.specs.Between.{Between, in_between, call_between, turned_once, turned_all, turns_taken}
 
 -- ---- a turning call
--- its answer, by the number of the first question answered no
-abbrev answer_for : ℕ → Frame → TurnedFrame
-answer_for zero g = accepted_as g
-answer_for (suc n) g = Refused (suc n)
+-- the first of its questions answered no
+pub first_no : (t : ℕ) (f : Frame) (room : ℕ) → Found (ask (turn_questions t f room))
+first_no t f room =
+    found-first _ _ why.Turn refl
+    (found-first _ _ why.Width refl
+    (found-first _ _ why.Height refl (found-first _ _ why.Layout refl (found-first _ _ why.GivenLength refl (found-first _ _ why.FilledLength refl found-end)))))
+
+-- the answer, by it
+abbrev answer_for : {n : ℕ} → Found n → Frame → Result Shape Refusal
+answer_for (none z) g = Ok (shape_of g)
+answer_for (refused r e) g = Err r
 
 abbrev run_of : ℕ → Between → TurnRun
 run_of t b = record {
   turn = t;
   before = b.other;
-  answer = answer_for (ask (call_between t b).questions) (turn_frame t b.frame);
+  answer = answer_for (first_no t b.frame (length b.other)) (turn_frame t b.frame);
   after = if_accepted (call_between t b).questions (turn_frame t b.frame).samples b.other;
 }
 
 module _ (t : ℕ) (b : Between) where
-  ran : Result (call_between t b) (run_of t b).answer (run_of t b).after
-  ran = record { answer = record { number = number (ask (call_between t b).questions); accepted = accepted (ask (call_between t b).questions) }; leaves = refl }
-    where
-      number : (n : ℕ) → number_of_frame (answer_for n (turn_frame t b.frame)) ≡ n
-      number zero = refl
-      number (suc n) = refl
+  abbrev asked : ℕ
+  asked = ask (call_between t b).questions
 
-      accepted : (n : ℕ) → n ≡ 0 → answer_for n (turn_frame t b.frame) ≡ accepted_as (turn_frame t b.frame)
-      accepted zero z = refl
-      accepted (suc n) z = absurd (omega arith)
+  abbrev g : Frame
+  g = turn_frame t b.frame
+
+  ran : Outcome (call_between t b) (run_of t b).answer (run_of t b).after
+  ran = record { answer = record { number = number (first_no t b.frame (length b.other)); accepted = accepted (first_no t b.frame (length b.other)) }; leaves = refl }
+    where
+      number : {n : ℕ} (f : Found n) → number_of (answer_for f g) ≡ n
+      number (none z) = sym z
+      number (refused r e) = e
+
+      accepted : {n : ℕ} (f : Found n) → n ≡ 0 → answer_for f g ≡ Ok (shape_of g)
+      accepted (none z) y = refl
+      accepted (refused r e) y = absurd (refusal_positive r (e ∙ y))
 
   -- what stands after it
   left : frame_after b.frame (run_of t b).answer (run_of t b).after ≡ (turned_once t b).frame
   unfolding turned_once if_accepted
-  left = go (ask (call_between t b).questions)
+  left = go asked (first_no t b.frame (length b.other))
     where
-      g : Frame
-      g = turn_frame t b.frame
-
-      go : (n : ℕ) → frame_after b.frame (answer_for n g) (elim n [ zero ↦ g.samples | suc k ↦ b.other ]) ≡ (elim n as (λ k. Between) [ zero ↦ in_between g b.frame.samples (not b.swapped) | suc k ↦ b ]).frame
-      go zero = refl
-      go (suc n) = refl
+      go : (n : ℕ) (f : Found n) → frame_after b.frame (answer_for f g) (elim n [ zero ↦ g.samples | suc k ↦ b.other ]) ≡ (elim n as (λ k. Between) [ zero ↦ in_between g b.frame.samples (not b.swapped) | suc k ↦ b ]).frame
+      go zero (none z) = refl
+      go zero (refused r e) = absurd (refusal_positive r e)
+      go (suc n) (none z) = absurd (omega arith)
+      go (suc n) (refused r e) = refl
 
   -- and whether its turn is taken
   taken : (ts : List ℕ) → if_turned (run_of t b).answer t ts ≡ if_accepted (call_between t b).questions (t ∷ ts) ts
   unfolding if_accepted
-  taken ts = go (ask (call_between t b).questions)
+  taken ts = go asked (first_no t b.frame (length b.other))
     where
-      go : (n : ℕ) → if_turned (answer_for n (turn_frame t b.frame)) t ts ≡ elim n [ zero ↦ t ∷ ts | suc k ↦ ts ]
-      go zero = refl
-      go (suc n) = refl
+      go : (n : ℕ) (f : Found n) → if_turned (answer_for f g) t ts ≡ elim n [ zero ↦ t ∷ ts | suc k ↦ ts ]
+      go zero (none z) = refl
+      go zero (refused r e) = absurd (refusal_positive r e)
+      go (suc n) (none z) = absurd (omega arith)
+      go (suc n) (refused r e) = refl
 
 -- ---- a list of them
 unfoldable pub runs_of : List ℕ → Between → List TurnRun

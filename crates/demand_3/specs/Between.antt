@@ -1,10 +1,10 @@
 -- A frame that is turned back and forth between two mosaics. Assumes nothing.
 use Rattle.std.specs.Prelude.{Bool, cond, not, List, [], ◌∷◌, ℕ}
 use Rattle.planes.specs.Planes.{Frame}
+use Rattle.questions.specs.declared.Shape.{Shape}
 use Rattle.questions.specs.Calls.{Call, if_accepted}
 use Rattle.turns.specs.Frames.{turn_frame}
 use Rattle.turns.specs.Turning.{turn_call}
-use Rattle.turns.specs.declared.TurnedFrame.{TurnedFrame}
 
 -- the frame that stands in one of them, what the other one holds, and whether it stands in the second
 pub record Between : Type 0 where
@@ -23,7 +23,7 @@ abbrev pub second_holds : Between → List ℕ
 second_holds b = cond b.swapped b.frame.samples b.other
 
 -- a turning call from the one into the other
-abbrev pub call_between : ℕ → Between → Call TurnedFrame (List ℕ)
+abbrev pub call_between : ℕ → Between → Call Shape (List ℕ)
 call_between t b = turn_call t b.frame b.other
 
 -- and what it leaves

@@ -2,56 +2,40 @@
 #![tactic(auto)]
 
 ghost use Rattle.std.specs.Prelude.{◌≡◌};
-ghost use Rattle.planes.specs.Planes.{frame};
+ghost use Rattle.questions.specs.Settings.{framed};
 ghost use Rattle.questions.specs.Lent.{lent};
-ghost use Rattle.questions.specs.Calls.{Result};
+ghost use Rattle.questions.specs.Calls.{Outcome};
 ghost use Rattle.finishing.specs.Calls.{finish_call};
 ghost use Rattle.demand_3.specs.Between.{turned_once, turned_all};
 ghost use Rattle.demand_3.specs.Alike.{stands, Moved, FinishedAlike};
 
-use questions::{Answer, Settings};
-use turns::{Turn, TurnedFrame};
+use questions::{Refusal, Settings, Shape};
+use turns::Turn;
 
 // Where the frame stands: its width, height and layout, and whether the second mosaic holds its samples.
 #[derive(Clone, Copy)]
 struct Standing {
-    width: usize,
-    height: usize,
-    layout: u8,
+    shape: Shape,
     swapped: bool,
 }
 
-// The numbers of both finishings, 0 for accepted.
+// The answers of both finishings.
 #[derive(Clone, Copy)]
-pub struct Numbers {
-    pub given: u32,
-    pub turned: u32,
+pub struct Answers {
+    pub given: Result<(), Refusal>,
+    pub turned: Result<(), Refusal>,
 }
 
 // A turning call from one mosaic into the other.
 fn turn_between(turn: u8, at: Standing, from: &[u16], to: &mut [u16]) -> Standing
     ensures { Moved turn at from.now to.old result to.new }
 {
-    let turned = turns::turn_samples(
-        Turn { number: turn },
-        at.width,
-        at.height,
-        at.layout,
-        from,
-        to,
-    );
-    match turned {
-        TurnedFrame::Accepted {
-            width,
-            height,
-            layout,
-        } => Standing {
-            width,
-            height,
-            layout,
+    match turns::turn_samples(Turn { number: turn }, at.shape, from, to) {
+        Ok(shape) => Standing {
+            shape,
             swapped: !at.swapped,
         },
-        TurnedFrame::Refused(_) => at,
+        Err(_) => at,
     }
 }
 
@@ -70,15 +54,14 @@ fn turn_all(turns: &[u8], start: Standing, first: &mut [u16], second: &mut [u16]
     ensures { stands result first.new second.new ≡ turned_all turns.now (stands start first.old second.old) }
 {
     let mut at = start;
-    let mut k = 0;
-    while k < turns.len() {
-        at = turn_once(turns[k], at, first, second);
-        k += 1;
+    for turn in turns {
+        at = turn_once(*turn, at, first, second);
     }
     at
 }
 
 // The frame finished from the mosaic where it stands.
+// Lent lists go one by one (docs/DECISIONS.md, "Lent lists").
 fn finish_standing(
     at: Standing,
     settings: Settings,
@@ -89,28 +72,22 @@ fn finish_standing(
     blue: &mut [u16],
     work: &mut [i32],
     wide_work: &mut [i64],
-) -> Answer
-    ensures { Result (finish_call (stands at first.now second.now).frame settings (lent red.old green.old blue.old work.old wide_work.old)) result (lent red.new green.new blue.new work.new wide_work.new) }
+) -> Result<(), Refusal>
+    ensures { Outcome (finish_call (stands at first.now second.now).frame settings (lent red.old green.old blue.old work.old wide_work.old)) result (lent red.new green.new blue.new work.new wide_work.new) }
 {
-    let width = at.width;
-    let height = at.height;
-    let layout = at.layout;
     if at.swapped {
         return finishing::finish_frame(
-            width, height, layout, settings, second, red, green, blue, work, wide_work,
+            at.shape, settings, second, red, green, blue, work, wide_work,
         );
     }
-    finishing::finish_frame(
-        width, height, layout, settings, first, red, green, blue, work, wide_work,
-    )
+    finishing::finish_frame(at.shape, settings, first, red, green, blue, work, wide_work)
 }
 
 // Finishes the frame in the first mosaic; turns it by these turns, back and forth between the two; finishes what stands then.
+// Lent lists go one by one (docs/DECISIONS.md, "Lent lists").
 pub fn finish_turned(
     turns: &[u8],
-    width: usize,
-    height: usize,
-    layout: u8,
+    shape: Shape,
     settings: Settings,
     first: &mut [u16],
     second: &mut [u16],
@@ -124,13 +101,11 @@ pub fn finish_turned(
     blue2: &mut [u16],
     work2: &mut [i32],
     wide2: &mut [i64],
-) -> Numbers
-    ensures { FinishedAlike turns.now (frame width height layout first.old) second.old settings (lent red1.old green1.old blue1.old work1.old wide1.old) (lent red2.old green2.old blue2.old work2.old wide2.old) result first.new second.new (lent red1.new green1.new blue1.new work1.new wide1.new) (lent red2.new green2.new blue2.new work2.new wide2.new) }
+) -> Answers
+    ensures { FinishedAlike turns.now (framed shape first.old) second.old settings (lent red1.old green1.old blue1.old work1.old wide1.old) (lent red2.old green2.old blue2.old work2.old wide2.old) result first.new second.new (lent red1.new green1.new blue1.new work1.new wide1.new) (lent red2.new green2.new blue2.new work2.new wide2.new) }
 {
     let start = Standing {
-        width,
-        height,
-        layout,
+        shape,
         swapped: false,
     };
     let given = finish_standing(
@@ -140,8 +115,5 @@ pub fn finish_turned(
     let turned = finish_standing(
         at, settings, first, second, red2, green2, blue2, work2, wide2,
     );
-    Numbers {
-        given: given.number(),
-        turned: turned.number(),
-    }
+    Answers { given, turned }
 }

@@ -6,7 +6,8 @@ ghost use Rattle.std.specs.Prelude.{◌≤◌, length};
 use std::io;
 use std::io::Read;
 
-// Reads until `buf` is full, the input ends or a read fails; how many bytes are at the front of `buf`.
+// Reads until `buf` is full, the input ends or a read fails; how many bytes are at the front of `buf`. By hand: `read_exact` and `io::copy` do
+// not say how many bytes came before the end or a failure, and `read_to_end` needs a heap.
 fn read_full(rt: &impl Input, buf: &mut [u8]) -> usize
     ensures { result ≤ length buf.new }
 {

@@ -13,6 +13,7 @@ use Rattle.questions.specs.Settings.{settings, ceiling, ceiling_of}
 use Rattle.questions.specs.Questions.{Question, question, ask, size_questions, shape_questions, settings_questions, frame_questions}
 use Rattle.questions.specs.Calls.{if_accepted, Call, Numbered}
 use Rattle.questions.specs.declared.Settings.{Settings}
+use Rattle.questions.specs.declared.Shape.{Shape}
 use Rattle.questions.proofs.Asking.{AllYes, numbered, all_yes, all_yes_split}
 
 -- ---- a number n, cut at `most` to b
@@ -27,6 +28,10 @@ cut_asked most k n {b} e h = go (leb n k) refl
 -- and where that is a yes, b is n
 pub cut_kept : (most k n : ℕ) {b : ℕ} → b ≡ min n most → k < most → leb n k ≡ true → b ≡ n
 cut_kept most k n e h p = let l = leb-true n k p in omega arith
+
+-- a frame's width, height and layout, so cut
+abbrev pub cut : ℕ → ℕ → ℕ → Shape
+cut width height layout = record { width = width; height = height; layout = min layout 255 }
 
 -- ---- what holds of call c, on cut numbers, holds of call d, the same on C's numbers
 module _ {A D B : Type 0} (c : Call A B) (d : Call D B) (p : c.questions ≡ d.questions) (old : c.old ≡ d.old) (new : ask d.questions ≡ 0 → c.new ≡ d.new) where

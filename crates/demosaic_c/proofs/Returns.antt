@@ -1,230 +1,177 @@
--- What the calls that fill single numbers show where they return, having seen the answer a. Assumes nothing.
-use mathlib.Core.Path.{◌≡◌, refl, sym, ap, ◌∙◌}
-use mathlib.Core.Bool.{Bool, true, false, cond}
-use mathlib.Core.List.{List, [], ◌∷◌, ◌++◌}
-use Prim.Native.Nat.{ℕ, zero, suc, ◌*◌, min}
-use native.Mathlib.Omega.{arith}
+-- What the calls that fill single numbers show where they return. Assumes nothing.
+use Rattle.std.proofs.Common.{◌≡◌, refl, sym, ap, ◌∙◌, subst, ℕ, ◌*◌, min, Bool, true, false, cond, List, [], ◌∷◌, ◌++◌, length, Result, Ok, Err, arith}
+use Rattle.std.specs.Result.{result_unwrap_or}
 use lib.Dec.{leb, ltb, eqb}
-use lib.ListN.{length}
-use Rattle.planes.specs.Planes.{Frame, Planes, frame}
+use Rattle.planes.specs.Planes.{Frame, Planes}
+use Rattle.questions.specs.Settings.{framed}
 use Rattle.questions.specs.Questions.{Question, question, ask, size_questions}
-use Rattle.questions.specs.Calls.{Answered, Call, Result, Numbered, if_accepted}
+use Rattle.questions.specs.Refusals.{refusal_number}
+use Rattle.questions.specs.Calls.{Answered, Call, Outcome, Numbered, plain_call}
+use Rattle.questions.specs.declared.Refusal.{Refusal}
+use Rattle.questions.specs.declared.Shape.{Shape}
 use Rattle.questions.proofs.Asking.{all_yes}
-use Rattle.questions.proofs.Answering.{left_no, left_yes, new_left, old_left}
-use Rattle.packet.specs.Packet.{distance, fields_of, repeats}
-use Rattle.packet.specs.Calls.{read_questions, repeat_questions, number_of_read, number_of_written, number_of_repeat, ReadResult, write_call, RepeatResult}
-use Rattle.packet.specs.declared.Fields.{Fields}
-use Rattle.packet.specs.declared.ReadPacket.{ReadPacket}
-use Rattle.packet.specs.declared.ReadPacket.TheVariants as read
-use Rattle.packet.specs.declared.WrittenPacket.{WrittenPacket}
-use Rattle.packet.specs.declared.WrittenPacket.TheVariants as written
-use Rattle.packet.specs.declared.Repeat.{Repeat}
-use Rattle.packet.specs.declared.Repeat.TheVariants as repeat
+use Rattle.questions.proofs.Answering.{refusal_positive, left_no, left_yes, new_left, old_left}
 use Rattle.spot.specs.Spot.{is_lit, kept, lit_spot, next_kept, reading}
-use Rattle.spot.specs.Calls.{SpotGiven, questions_of, sums_of, number_of_spot, accepted, SpotResult}
-use Rattle.spot.specs.declared.Sums.{Sums}
+use Rattle.spot.specs.Calls.{SpotGiven, questions_of, sums_of, SpotResult}
 use Rattle.spot.specs.declared.Kept.{Kept}
 use Rattle.spot.specs.declared.Reading.{Reading}
 use Rattle.spot.specs.declared.Reading.TheVariants as spot_reading
-use Rattle.spot.specs.declared.SpotAnswer.{SpotAnswer}
-use Rattle.spot.specs.declared.SpotAnswer.TheVariants as spot_answer
 use Rattle.turns.specs.Pictures.{Picture, then_another}
 use Rattle.turns.specs.Frames.{turn_frame}
-use Rattle.turns.specs.Turning.{then_questions, shape_turn_questions, turn_questions, shape_turned, number_of_composed, number_of_extent, number_of_layout, number_of_frame, turn_call}
-use Rattle.turns.specs.declared.Composed.{Composed}
-use Rattle.turns.specs.declared.Composed.TheVariants as composed
-use Rattle.turns.specs.declared.Extent.{Extent}
-use Rattle.turns.specs.declared.Extent.TheVariants as extent
-use Rattle.turns.specs.declared.TurnedLayout.{TurnedLayout}
-use Rattle.turns.specs.declared.TurnedLayout.TheVariants as turned_layout
-use Rattle.turns.specs.declared.TurnedFrame.{TurnedFrame}
-use Rattle.turns.specs.declared.TurnedFrame.TheVariants as turned_frame
-use Rattle.demosaic_c.specs.Pointers.{number_call, fields_call, length_call, repeat_call, single_call, shape, shape_of, shape_call, turned_call, places_of, SpotNumbers, number_of_reading, kept_given, reading_call}
-use Rattle.demosaic_c.proofs.Cuts.{cut_asked, cut_kept, carried}
+use Rattle.turns.specs.Turning.{then_questions, shape_turn_questions, turn_questions, shape_turned, turn_call}
+use Rattle.turns.specs.declared.Turn.{Turn}
+use Rattle.demosaic_c.specs.Pointers.{single_call, shape, shape_of, shape_call, turned_call, SpotNumbers, number_of_reading, kept_given, reading_call}
+use Rattle.demosaic_c.proofs.Cuts.{cut, cut_asked, cut_kept, carried}
 
--- ---- What is put into numbers is told by the answer: `value` of the one promised is the new, of a refused one the old. So it is of the answer a
--- that a call was seen to give.
-module _ {A B : Type 0} (number_of_lem : A → ℕ) (qs : List Question) (promised r : A) (e : Answered number_of_lem qs promised r) where
-  told : (value : A → B) (new old : B) → (ask qs ≡ 0 → value promised ≡ new) → ((number_of_lem r ≡ 0 → ⊥) → value r ≡ old) → (a : A) → r ≡ a
-      → Numbered (number_call qs new old) (number_of_lem a) (value a)
-  told value new old y n a p = record {
-    number = ap number_of_lem (sym p) ∙ e.number;
-    leaves = ap value (sym p) ∙ go (ask qs) refl;
-  }
-    where
-      go : (k : ℕ) → ask qs ≡ k → value r ≡ if_accepted qs new old
-      go zero z = ap value (e.accepted z) ∙ y z ∙ left_yes qs new old 0 (sym z) refl
-      go (suc k) z =
-          let other : number_of_lem r ≡ 0 → ⊥ = λ x. let w : suc k ≡ 0 = sym z ∙ sym e.number ∙ x in omega arith in
-          n other ∙ left_no qs new old (number_of_lem r) e.number other
+-- ---- What is put into numbers is told by the answer: of a refused one the old, of the one promised its `value`.
+module _ {A B : Type 0} {qs : List Question} {promised : A} where
+  pub told_no : {why : Refusal} → Answered qs promised (Err why) → (new old : B) {n : ℕ} → n ≡ refusal_number why → Numbered (plain_call qs new old) n old
+  told_no {why} e new old q = record { number = q ∙ e.number; leaves = left_no qs new old (refusal_number why) e.number (refusal_positive why) }
 
--- ---- packets
-abbrev pub fields_or : Fields → ReadPacket → Fields
-fields_or before (read.Sound f) = f
-fields_or before (read.Refused n) = before
+  pub told_yes : {a : A} → Answered qs promised (Ok a) → (value : A → B) (new old : B) → value promised ≡ new → Numbered (plain_call qs new old) 0 (value a)
+  told_yes {a} e value new old p =
+      let same : a ≡ promised = let x = e.accepted (sym e.number) in cc in
+      record { number = e.number; leaves = ap value same ∙ p ∙ left_yes qs new old e.number }
 
-pub fields_returned : (s : List ℕ) (before : Fields) {r : ReadPacket} → ReadResult s r → (a : ReadPacket) → r ≡ a → Numbered (fields_call s before) (number_of_read a) (fields_or before a)
-fields_returned s before {r} e = told number_of_read (read_questions s) (read.Sound (fields_of s)) r e (fields_or before) (fields_of s) before (λ z. refl) (kept r)
-  where
-    kept : (a : ReadPacket) → (number_of_read a ≡ 0 → ⊥) → fields_or before a ≡ before
-    kept (read.Sound f) h = absurd (h refl)
-    kept (read.Refused n) h = refl
+-- numbers that equal what was told
+pub put : {A B : Type 0} {c : Call A B} {n : ℕ} {x y : B} → x ≡ y → Numbered c n y → Numbered c n x
+put p e = record { number = e.number; leaves = p ∙ e.leaves }
 
-abbrev pub length_or : ℕ → WrittenPacket → ℕ
-length_or before (written.Bytes n) = n
-length_or before (written.Refused n) = before
+-- and a buffer beside them
+module _ {A B D : Type 0} {c : Call A B} {after : B} where
+  pub both_no : {why : Refusal} → Outcome c (Err why) after → (x y : D) {n : ℕ} → n ≡ refusal_number why → Numbered {B = B × D} (plain_call c.questions (c.new, x) (c.old, y)) n (after, y)
+  both_no {why} e x y q =
+      let k = e.answer.number in
+      let other = refusal_positive why in
+      record { number = q ∙ k; leaves = (λ i. (old_left c e.leaves (λ z. other (k ∙ z)) i, y)) ∙ left_no c.questions (c.new, x) (c.old, y) (refusal_number why) k other }
 
-pub length_returned : (f : Fields) (samples out : List ℕ) (before : ℕ) {r : WrittenPacket} {after : List ℕ} → Result (write_call f samples out) r after → (a : WrittenPacket) → r ≡ a
-    → Numbered (length_call f samples out before) (number_of_written a) (after, length_or before a)
-length_returned f samples out before {r} {after} e =
-    told number_of_written c.questions c.answer r e.answer (λ a. (after, length_or before a)) (c.new, distance f) (out, before)
-    (λ z. λ i. (new_left c e.leaves z i, distance f))
-    (λ h. λ i. (old_left c e.leaves (λ z. h (e.answer.number ∙ z)) i, kept r h i))
-  where
-    c : Call WrittenPacket (List ℕ)
-    c = write_call f samples out
-
-    kept : (a : WrittenPacket) → (number_of_written a ≡ 0 → ⊥) → length_or before a ≡ before
-    kept (written.Bytes n) h = absurd (h refl)
-    kept (written.Refused n) h = refl
-
-abbrev pub same_or : ℕ → Repeat → ℕ
-same_or before repeat.Yes = 1
-same_or before repeat.No = 0
-same_or before (repeat.Refused n) = before
-
-pub repeat_returned : (s t : List ℕ) (before : ℕ) {r : Repeat} → RepeatResult s t r → (a : Repeat) → r ≡ a → Numbered (repeat_call s t before) (number_of_repeat a) (same_or before a)
-repeat_returned s t before {r} e =
-    told number_of_repeat (repeat_questions s t) (cond (repeats s t) repeat.Yes repeat.No) r e (same_or before) (cond (repeats s t) 1 0) before (λ z. either (repeats s t)) (kept r)
-  where
-    either : (x : Bool) → same_or before (cond x repeat.Yes repeat.No) ≡ cond x 1 0
-    either true = refl
-    either false = refl
-
-    kept : (a : Repeat) → (number_of_repeat a ≡ 0 → ⊥) → same_or before a ≡ before
-    kept repeat.Yes h = absurd (h refl)
-    kept repeat.No h = absurd (h refl)
-    kept (repeat.Refused n) h = refl
+  pub both_yes : {a : A} → Outcome c (Ok a) after → (value : A → D) (x y : D) → value c.answer ≡ x → Numbered {B = B × D} (plain_call c.questions (c.new, x) (c.old, y)) 0 (after, value a)
+  both_yes {a} e value x y p =
+      let k = e.answer.number in
+      let same : a ≡ c.answer = let z = e.answer.accepted (sym k) in cc in
+      record { number = k; leaves = (λ i. (new_left c e.leaves (sym k) i, (ap value same ∙ p) i)) ∙ left_yes c.questions (c.new, x) (c.old, y) k }
 
 -- ---- turns
-abbrev pub single_or : ℕ → Composed → ℕ
-single_or before (composed.Single t) = t.number
-single_or before (composed.Refused n) = before
-
-module _ (turn next : ℕ) {t n : ℕ} (pt : t ≡ min turn 255) (pn : n ≡ min next 255) where
+module _ (turn next : ℕ) {t n : ℕ} (pt : t ≡ min turn 255) (pn : n ≡ min next 255) (before : ℕ) where
   then_kept : ask (then_questions turn next) ≡ 0 → then_another t n ≡ then_another turn next
   then_kept z =
       let y = all_yes (then_questions turn next) tt 0 (sym z) refl in
       λ i. then_another (cut_kept 255 7 turn pt (omega arith) y.0 i) (cut_kept 255 7 next pn (omega arith) y.1.0 i)
 
-  pub single_returned : (before : ℕ) {r : Composed} → Answered number_of_composed (then_questions t n) (composed.Single (record { number = then_another t n })) r → (a : Composed) → r ≡ a
-      → Numbered (single_call turn next before) (number_of_composed a) (single_or before a)
-  single_returned before {r} e a p =
+  single_carried : {k : ℕ} {after : ℕ} → Numbered (single_call t n before) k after → Numbered (single_call turn next before) k after
+  single_carried =
       carried (single_call t n before) (single_call turn next before)
       (λ i. question 16 (cut_asked 255 7 turn pt (omega arith) i) ∷ question 16 (cut_asked 255 7 next pn (omega arith) i) ∷ []) refl then_kept
-      (told number_of_composed (then_questions t n) _ r e (single_or before) (then_another t n) before (λ z. refl) (kept r) a p)
-    where
-      kept : (a : Composed) → (number_of_composed a ≡ 0 → ⊥) → single_or before a ≡ before
-      kept (composed.Single s) h = absurd (h refl)
-      kept (composed.Refused k) h = refl
 
--- the shape, where the turned width and height w and h were answered too
-abbrev pub shape_or : Picture Unit → ℕ → ℕ → TurnedLayout → Picture Unit
-shape_or before w h (turned_layout.Layout l) = shape w h l
-shape_or before w h (turned_layout.Refused n) = before
+  abbrev single : Turn
+  single = record { number = then_another t n }
 
-abbrev pub frame_shape_or : Picture Unit → TurnedFrame → Picture Unit
-frame_shape_or before (turned_frame.Accepted w h l) = shape w h l
-frame_shape_or before (turned_frame.Refused n) = before
+  pub single_no : {why : Refusal} → Answered (then_questions t n) single (Err why) → {k : ℕ} → k ≡ refusal_number why → Numbered (single_call turn next before) k before
+  single_no e q = single_carried (told_no e (then_another t n) before q)
 
-module _ (turn width height layout : ℕ) {t l : ℕ} (pt : t ≡ min turn 255) (pl : l ≡ min layout 255) where
+  pub single_yes : {s : Turn} → Answered (then_questions t n) single (Ok s) → Numbered (single_call turn next before) 0 s.number
+  single_yes e = single_carried (told_yes e (λ s. s.number) (then_another t n) before refl)
+
+module _ (turn width height layout : ℕ) {t : ℕ} (pt : t ≡ min turn 255) where
+  abbrev l : ℕ
+  l = min layout 255
+
   shape_asked : shape_turn_questions t width height l ≡ shape_turn_questions turn width height layout
-  shape_asked = λ i. question 16 (cut_asked 255 7 turn pt (omega arith) i) ∷ size_questions 2 width height ++ (question 3 (cut_asked 255 7 layout pl (omega arith) i) ∷ [])
+  shape_asked = λ i. question 16 (cut_asked 255 7 turn pt (omega arith) i) ∷ size_questions 2 width height ++ (question 3 (cut_asked 255 7 layout refl (omega arith) i) ∷ [])
 
   same_turn : leb turn 7 ≡ true → t ≡ turn
   same_turn = cut_kept 255 7 turn pt (omega arith)
 
   same_layout : leb layout 7 ≡ true → l ≡ layout
-  same_layout = cut_kept 255 7 layout pl (omega arith)
+  same_layout = cut_kept 255 7 layout refl (omega arith)
 
   shape-kept : ask (shape_turn_questions turn width height layout) ≡ 0 → shape_turned t width height l ≡ shape_turned turn width height layout
   shape-kept z =
       let y = all_yes (shape_turn_questions turn width height layout) tt 0 (sym z) refl in
       λ i. shape_turned (same_turn y.0 i) width height (same_layout y.1.1.1.0 i)
 
-  abbrev turned_shape : Picture Unit
-  turned_shape = shape_turned t width height l
+  module _ (before : Picture Unit) where
+    shape_carried : {k : ℕ} {after : Picture Unit} → Numbered (shape_call t width height l before) k after → Numbered (shape_call turn width height layout before) k after
+    shape_carried = carried (shape_call t width height l before) (shape_call turn width height layout before) shape_asked refl shape-kept
 
-  pub shape_returned : (before : Picture Unit) {rw rh : Extent} {rl : TurnedLayout} → Answered number_of_extent (shape_turn_questions t width height l) (extent.Places turned_shape.width) rw
-      → Answered number_of_extent (shape_turn_questions t width height l) (extent.Places turned_shape.height) rh
-      → Answered number_of_layout (shape_turn_questions t width height l) (turned_layout.Layout turned_shape.layout) rl
-      → (w h : ℕ) → w ≡ places_of rw → h ≡ places_of rh → (a : TurnedLayout) → rl ≡ a
-      → Numbered (shape_call turn width height layout before) (number_of_layout a) (shape_or before w h a)
-  shape_returned before {rl = rl} ew eh el w h pw ph a p =
-      carried (shape_call t width height l before) (shape_call turn width height layout before) shape_asked refl shape-kept
-      (told number_of_layout (shape_turn_questions t width height l) _ rl el (shape_or before w h) turned_shape before
-      (λ z. λ i. shape ((pw ∙ ap places_of (ew.accepted z)) i) ((ph ∙ ap places_of (eh.accepted z)) i) turned_shape.layout) (kept rl) a p)
-    where
-      kept : (a : TurnedLayout) → (number_of_layout a ≡ 0 → ⊥) → shape_or before w h a ≡ before
-      kept (turned_layout.Layout m) z = absurd (z refl)
-      kept (turned_layout.Refused n) z = refl
+    abbrev turned_shape : Picture Unit
+    turned_shape = shape_turned t width height l
 
-  module _ (samples out : List ℕ) where
-    abbrev cut : Frame
-    cut = frame width height l samples
+    -- what an operation of the turn answered, of a shape
+    abbrev Told : Shape → (Picture Unit → ℕ) → Result ℕ Refusal → Type 0
+    Told s part r = Answered (shape_turn_questions t s.width s.height s.layout) (part (shape_turned t s.width s.height s.layout)) r
 
+    module _ {s : Shape} (ps : s ≡ cut width height layout) where
+      abbrev told_cut : (part : Picture Unit → ℕ) (r : Result ℕ Refusal) → Told s part r → Told (cut width height layout) part r
+      told_cut part r e = subst (λ (x : Shape). Told x part r) ps e
+
+      pub shape_no : {why : Refusal} → Told s (λ p. p.layout) (Err why) → {k : ℕ} → k ≡ refusal_number why → Numbered (shape_call turn width height layout before) k before
+      shape_no e q = shape_carried (told_no (told_cut (λ p. p.layout) _ e) turned_shape before q)
+
+      -- where the turned width and height were answered too
+      pub shape_yes : {rw rh : Result ℕ Refusal} → Told s (λ p. p.width) rw → Told s (λ p. p.height) rh → {w h m : ℕ} → w ≡ result_unwrap_or rw 0 → h ≡ result_unwrap_or rh 0
+          → Told s (λ p. p.layout) (Ok m) → Numbered (shape_call turn width height layout before) 0 (shape w h m)
+      shape_yes ew eh {w} {h} pw ph el =
+          let told = told_cut (λ p. p.layout) _ el in
+          let z = sym told.number in
+          let wide : w ≡ turned_shape.width = pw ∙ ap (λ r. result_unwrap_or r 0) ((told_cut (λ p. p.width) _ ew).accepted z) in
+          let high : h ≡ turned_shape.height = ph ∙ ap (λ r. result_unwrap_or r 0) ((told_cut (λ p. p.height) _ eh).accepted z) in
+          shape_carried (told_yes told (λ x. shape w h x) turned_shape before (λ i. shape (wide i) (high i) turned_shape.layout))
+
+  module _ (samples out : List ℕ) (before : Picture Unit) where
     abbrev given : Frame
-    given = frame width height layout samples
+    given = record { width = width; height = height; layout = layout; samples = samples }
 
-    frame-kept : ask (turn_questions turn given (length out)) ≡ 0 → turn_frame t cut ≡ turn_frame turn given
+    abbrev cut_frame : Frame
+    cut_frame = framed (cut width height layout) samples
+
+    frame-kept : ask (turn_questions turn given (length out)) ≡ 0 → turn_frame t cut_frame ≡ turn_frame turn given
     frame-kept z =
         let y = all_yes (turn_questions turn given (length out)) tt 0 (sym z) refl in
-        λ i. turn_frame (same_turn y.0 i) (frame width height (same_layout y.1.1.1.0 i) samples)
+        λ i. turn_frame (same_turn y.0 i) (record { width = width; height = height; layout = same_layout y.1.1.1.0 i; samples = samples })
 
-    pub frame_returned : (before : Picture Unit) {r : TurnedFrame} {after : List ℕ} → Result (turn_call t cut out) r after → (a : TurnedFrame) → r ≡ a
-        → Numbered (turned_call turn given out before) (number_of_frame a) (after, frame_shape_or before a)
-    frame_returned before {r} {after} e a p =
-        carried (turned_call t cut out before) (turned_call turn given out before)
+    frame_carried : {k : ℕ} {after : List ℕ × Picture Unit} → Numbered (turned_call t cut_frame out before) k after → Numbered (turned_call turn given out before) k after
+    frame_carried =
+        carried (turned_call t cut_frame out before) (turned_call turn given out before)
         (ap (λ (qs : List Question). qs ++ (question 6 (eqb (length samples) (width * height)) ∷ question 7 (eqb (length out) (width * height)) ∷ [])) shape_asked) refl
         (λ z. λ i. ((frame-kept z i).samples, shape_of (frame-kept z i)))
-        (told number_of_frame _ (turn_call t cut out).answer r e.answer (λ x. (after, frame_shape_or before x)) ((turn_call t cut out).new, shape_of (turn_frame t cut)) (out, before)
-        (λ z. λ i. (new_left (turn_call t cut out) e.leaves z i, shape_of (turn_frame t cut)))
-        (λ h. λ i. (old_left (turn_call t cut out) e.leaves (λ z. h (e.answer.number ∙ z)) i, kept r h i)) a p)
-      where
-        kept : (a : TurnedFrame) → (number_of_frame a ≡ 0 → ⊥) → frame_shape_or before a ≡ before
-        kept (turned_frame.Accepted w h k) z = absurd (z refl)
-        kept (turned_frame.Refused n) z = refl
+
+    module _ {s : Shape} (ps : s ≡ cut width height layout) {after : List ℕ} where
+      abbrev frame_cut : {r : Result Shape Refusal} → Outcome (turn_call t (framed s samples) out) r after → Outcome (turn_call t cut_frame out) r after
+      frame_cut {r} e = subst (λ (x : Shape). Outcome (turn_call t (framed x samples) out) r after) ps e
+
+      pub frame_no : {why : Refusal} → Outcome (turn_call t (framed s samples) out) (Err why) after → {k : ℕ} → k ≡ refusal_number why → Numbered (turned_call turn given out before) k (after, before)
+      frame_no e q = frame_carried (both_no (frame_cut e) (shape_of (turn_frame t cut_frame)) before q)
+
+      pub frame_yes : {turned : Shape} → Outcome (turn_call t (framed s samples) out) (Ok turned) after → Numbered (turned_call turn given out before) 0 (after, shape turned.width turned.height turned.layout)
+      frame_yes e = frame_carried (both_yes (frame_cut e) (λ x. shape x.width x.height x.layout) (shape_of (turn_frame t cut_frame)) before refl)
 
 -- ---- the spot
-abbrev pub spot_or : SpotNumbers → SpotAnswer → SpotNumbers
-spot_or before (spot_answer.Accepted spot_reading.Starting k) = record { spot = before.spot; lit = 0; reading = 0 }
-spot_or before (spot_answer.Accepted spot_reading.Dark k) = record { spot = before.spot; lit = 1; reading = 1 }
-spot_or before (spot_answer.Accepted (spot_reading.Steady s) k) = record { spot = s; lit = 1; reading = 2 }
-spot_or before (spot_answer.Refused n k) = before
+-- what a reading puts into C's numbers
+abbrev pub spot_put : SpotNumbers → Reading → SpotNumbers
+spot_put before spot_reading.Starting = record { spot = before.spot; lit = 0; reading = 0 }
+spot_put before spot_reading.Dark = record { spot = before.spot; lit = 1; reading = 1 }
+spot_put before (spot_reading.Steady s) = record { spot = s; lit = 1; reading = 2 }
 
--- lit, dark or starting
-spot-put : (before : SpotNumbers) (lit : Bool) (s : Sums) → let k = kept before.spot lit in
-    spot_or before (accepted k s) ≡ record { spot = (next_kept k s).spot; lit = cond (next_kept k s).lit 1 0; reading = number_of_reading (reading k s) }
-unfolding next_kept reading
-spot-put before lit s = go lit (is_lit s)
-  where
-    go : (lit b : Bool) → let k = kept before.spot lit in
-        let next : Kept = cond b (kept (lit_spot k s) true) k in
-        let found : Reading = cond b (spot_reading.Steady (lit_spot k s)) (cond lit spot_reading.Dark spot_reading.Starting) in
-        spot_or before (spot_answer.Accepted found next) ≡ record { spot = next.spot; lit = cond next.lit 1 0; reading = number_of_reading found }
-    go lit true = refl
-    go true false = refl
-    go false false = refl
+module _ (width height : ℕ) (three : Planes (List ℕ)) (row column : ℕ) (before : SpotNumbers) where
+  abbrev g : SpotGiven
+  g = kept_given width height three row column before
 
-pub spot_returned : (width height : ℕ) (three : Planes (List ℕ)) (row column : ℕ) (before : SpotNumbers) {r : SpotAnswer} → SpotResult (kept_given width height three row column before) r
-    → (a : SpotAnswer) → r ≡ a → Numbered (reading_call width height three row column before) (number_of_spot a) (spot_or before a)
-spot_returned width height three row column before {r} e =
-    told number_of_spot (questions_of g) (accepted g.kept (sums_of g)) r e.result.answer (spot_or before) (reading_call width height three row column before).new before
-    (λ z. spot-put before (ltb 0 before.lit) (sums_of g)) (stays r)
-  where
-    g : SpotGiven
-    g = kept_given width height three row column before
+  -- lit, dark or starting
+  put_is : spot_put before (reading g.kept (sums_of g)) ≡ (reading_call width height three row column before).new
+  unfolding next_kept reading
+  put_is = go (ltb 0 before.lit) (is_lit (sums_of g))
+    where
+      go : (lit b : Bool) → let k = kept before.spot lit in
+          let next : Kept = cond b (kept (lit_spot k (sums_of g)) true) k in
+          let found : Reading = cond b (spot_reading.Steady (lit_spot k (sums_of g))) (cond lit spot_reading.Dark spot_reading.Starting) in
+          spot_put before found ≡ record { spot = next.spot; lit = cond next.lit 1 0; reading = number_of_reading found }
+      go lit true = refl
+      go true false = refl
+      go false false = refl
 
-    stays : (a : SpotAnswer) → (number_of_spot a ≡ 0 → ⊥) → spot_or before a ≡ before
-    stays (spot_answer.Accepted x k) h = absurd (h refl)
-    stays (spot_answer.Refused n k) h = refl
+  pub spot_no : {why : Refusal} {after : Kept} → SpotResult g (Err why) after → {k : ℕ} → k ≡ refusal_number why → Numbered (reading_call width height three row column before) k before
+  spot_no e q = told_no e.result.answer (reading_call width height three row column before).new before q
+
+  pub spot_yes : {r : Reading} {after : Kept} → SpotResult g (Ok r) after → Numbered (reading_call width height three row column before) 0 (spot_put before r)
+  spot_yes e = told_yes e.result.answer (spot_put before) (reading_call width height three row column before).new before put_is

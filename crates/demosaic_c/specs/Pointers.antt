@@ -1,8 +1,7 @@
 -- C's calls that put what they answer into single numbers, lent by pointer. Assumes nothing.
 use Rattle.std.specs.Prelude.{cond, List, ℕ, ltb, Float}
 use Rattle.planes.specs.Planes.{Frame, Planes}
-use Rattle.questions.specs.Questions.{Question}
-use Rattle.questions.specs.Calls.{Call}
+use Rattle.questions.specs.Calls.{Call, plain_call}
 use Rattle.questions.specs.declared.Settings.{Settings}
 use Rattle.spot.specs.Spot.{spot, kept, reading}
 use Rattle.spot.specs.Calls.{SpotGiven, spot_given, spot_call, sums_of}
@@ -15,33 +14,27 @@ use Rattle.packet.specs.declared.Fields.{Fields}
 use Rattle.turns.specs.Pictures.{Picture, then_another}
 use Rattle.turns.specs.Frames.{turn_frame}
 use Rattle.turns.specs.Turning.{then_questions, shape_turn_questions, shape_turned, turn_call}
-use Rattle.turns.specs.declared.Extent.{Extent}
-use Rattle.turns.specs.declared.Extent.TheVariants as extent
-
--- a call that answers the number itself
-abbrev pub number_call : {B : Type 0} → List Question → B → B → Call ℕ B
-number_call qs new old = record { questions = qs; number_of = λ n. n; answer = 0; new = new; old = old }
 
 -- ---- packets
 abbrev pub fields : ℕ → ℕ → ℕ → Settings → Fields
-fields width height layout s = record { width = width; height = height; layout = layout; settings = s }
+fields width height layout s = record { shape = record { width = width; height = height; layout = layout }; settings = s }
 
 -- the five numbers of a packet's frame, which held `before`
-abbrev pub fields_call : List ℕ → Fields → Call ℕ Fields
-fields_call store before = number_call (read_questions store) (fields_of store) before
+abbrev pub fields_call : List ℕ → Fields → Call (Unit {0}) Fields
+fields_call store before = plain_call (read_questions store) (fields_of store) before
 
 -- the writer, into buffer `out`; and how many bytes, into a number that held `before`
-abbrev pub length_call : Fields → List ℕ → List ℕ → ℕ → Call ℕ (List ℕ × ℕ)
-length_call f samples out before = let c = write_call f samples out in number_call c.questions (c.new, distance f) (out, before)
+abbrev pub length_call : Fields → List ℕ → List ℕ → ℕ → Call (Unit {0}) (List ℕ × ℕ)
+length_call f samples out before = let c = write_call f samples out in plain_call c.questions (c.new, distance f) (out, before)
 
 -- whether packet a repeats packet b, 1 or 0
-abbrev pub repeat_call : List ℕ → List ℕ → ℕ → Call ℕ ℕ
-repeat_call a b before = number_call (repeat_questions a b) (cond (repeats a b) 1 0) before
+abbrev pub repeat_call : List ℕ → List ℕ → ℕ → Call (Unit {0}) ℕ
+repeat_call a b before = plain_call (repeat_questions a b) (cond (repeats a b) 1 0) before
 
 -- ---- turns
 -- a turn and then another, as a single one
-abbrev pub single_call : ℕ → ℕ → ℕ → Call ℕ ℕ
-single_call turn next before = number_call (then_questions turn next) (then_another turn next) before
+abbrev pub single_call : ℕ → ℕ → ℕ → Call (Unit {0}) ℕ
+single_call turn next before = plain_call (then_questions turn next) (then_another turn next) before
 
 -- a width, a height and a layout, with nothing at the places
 abbrev pub shape : ℕ → ℕ → ℕ → Picture Unit
@@ -51,17 +44,12 @@ abbrev pub shape_of : Frame → Picture Unit
 shape_of f = shape f.width f.height f.layout
 
 -- the turned width, height and layout, into three numbers that held `before`
-abbrev pub shape_call : ℕ → ℕ → ℕ → ℕ → Picture Unit → Call ℕ (Picture Unit)
-shape_call turn width height layout before = number_call (shape_turn_questions turn width height layout) (shape_turned turn width height layout) before
+abbrev pub shape_call : ℕ → ℕ → ℕ → ℕ → Picture Unit → Call (Unit {0}) (Picture Unit)
+shape_call turn width height layout before = plain_call (shape_turn_questions turn width height layout) (shape_turned turn width height layout) before
 
 -- the turning call, into buffer `out`; and the turned shape
-abbrev pub turned_call : ℕ → Frame → List ℕ → Picture Unit → Call ℕ (List ℕ × Picture Unit)
-turned_call turn f out before = let c = turn_call turn f out in number_call c.questions (c.new, shape_of (turn_frame turn f)) (out, before)
-
--- inner: the places of a turned width or height; 0 where it was refused
-abbrev pub places_of : Extent → ℕ
-places_of (extent.Places n) = n
-places_of (extent.Refused number) = 0
+abbrev pub turned_call : ℕ → Frame → List ℕ → Picture Unit → Call (Unit {0}) (List ℕ × Picture Unit)
+turned_call turn f out before = let c = turn_call turn f out in plain_call c.questions (c.new, shape_of (turn_frame turn f)) (out, before)
 
 -- ---- the spot
 -- what C keeps between frames, the spot and whether a lit frame has come, 0 or not; and a frame's reading
@@ -84,8 +72,8 @@ abbrev pub kept_given : ℕ → ℕ → Planes (List ℕ) → ℕ → ℕ → Sp
 kept_given width height three row column before = spot_given width height three row column (kept before.spot (ltb 0 before.lit))
 
 -- that call; what is kept, and the reading, into those numbers
-abbrev pub reading_call : ℕ → ℕ → Planes (List ℕ) → ℕ → ℕ → SpotNumbers → Call ℕ SpotNumbers
+abbrev pub reading_call : ℕ → ℕ → Planes (List ℕ) → ℕ → ℕ → SpotNumbers → Call (Unit {0}) SpotNumbers
 reading_call width height three row column before =
     let g = kept_given width height three row column before in
     let c = spot_call g in
-    number_call c.questions (record { spot = c.new.spot; lit = cond c.new.lit 1 0; reading = number_of_reading (reading g.kept (sums_of g)) }) before
+    plain_call c.questions (record { spot = c.new.spot; lit = cond c.new.lit 1 0; reading = number_of_reading (reading g.kept (sums_of g)) }) before

@@ -1,4 +1,5 @@
-// What C sees of the engine: thin calls, declared in include/demosaic.h. A slice is a pointer and a length there.
+// What C sees of the engine: thin calls, declared in include/demosaic.h. A slice is a pointer and a length there. Parameters, however many, and answers as numbers
+// are C's.
 #![tactic(auto)]
 
 ghost use Rattle.std.specs.Prelude.{◌≡◌, min};
@@ -15,12 +16,12 @@ ghost use Rattle.update.specs.Calls.{update_call};
 ghost use Rattle.rounds.specs.Calls.{rounds_call};
 ghost use Rattle.finishing.specs.Calls.{finish_call};
 ghost use Rattle.packet.specs.Calls.{read_questions, mosaic_call};
-ghost use Rattle.demosaic_c.specs.Pointers.{fields, fields_call, length_call, repeat_call, single_call, shape, shape_call, turned_call, places_of, spot_numbers, reading_call};
+ghost use Rattle.demosaic_c.specs.Pointers.{fields, fields_call, length_call, repeat_call, single_call, shape, shape_call, turned_call, spot_numbers, reading_call};
 
-use packet::{Fields, ReadPacket, Repeat, WrittenPacket};
-use questions::Settings;
-use spot::{Kept, Reading, Spot, SpotAnswer};
-use turns::{Composed, Extent, Turn, TurnedFrame, TurnedLayout};
+use packet::Fields;
+use questions::{Settings, Shape};
+use spot::{Kept, Reading, Spot};
+use turns::Turn;
 
 // A packet's refusal number by the reader's questions, 0 for sound.
 #[unsafe(no_mangle)]
@@ -42,17 +43,16 @@ pub extern "C" fn demosaic_packet_fields(
 ) -> u32
     ensures { Numbered (fields_call store.now (fields width.old height.old layout.old (settings rounds.old threshold.old))) result (fields width.new height.new layout.new (settings rounds.new threshold.new)) }
 {
-    let answer = packet::read_packet(store);
-    match answer {
-        ReadPacket::Refused(number) => number,
-        ReadPacket::Sound(f) => {
-            *width = f.width;
-            *height = f.height;
-            *layout = f.layout as u32;
-            *rounds = f.settings.rounds as u32;
-            *threshold = f.settings.threshold as u32;
+    match packet::read_packet(store) {
+        Ok(f) => {
+            *width = f.shape.width;
+            *height = f.shape.height;
+            *layout = u32::from(f.shape.layout);
+            *rounds = u32::from(f.settings.rounds);
+            *threshold = u32::from(f.settings.threshold);
             0
         }
+        Err(refusal) => refusal.number(),
     }
 }
 
@@ -61,37 +61,34 @@ pub extern "C" fn demosaic_packet_fields(
 pub extern "C" fn demosaic_packet_samples(store: &[u8], samples: &mut [u16]) -> u32
     ensures { Numbered (mosaic_call store.now samples.old) result samples.new }
 {
-    let answer = packet::read_mosaic(store, samples);
-    match answer {
-        ReadPacket::Refused(refusal) => refusal,
-        ReadPacket::Sound(_) => 0,
-    }
+    questions::number(packet::read_mosaic(store, samples))
 }
 
 // A turn, a layout or rounds of C as the byte that the engine takes. What is above 255 becomes 255, which the same question refuses.
 fn byte(n: u32) -> u8
     ensures { result ≡ min n 255 }
 {
-    if 255 < n {
-        return 255;
+    u8::try_from(n).unwrap_or(u8::MAX)
+}
+
+// A frame's width, height and layout of C as the engine's.
+fn cut_shape(width: usize, height: usize, layout: u32) -> Shape
+    ensures { result ≡ record { width = width; height = height; layout = min layout 255 } }
+{
+    Shape {
+        width,
+        height,
+        layout: byte(layout),
     }
-    n as u8
 }
 
 // Rounds and threshold of C as the engine's settings. A threshold above 65,535 becomes 65,535, which the same question refuses.
 fn cut_settings(rounds: u32, threshold: u32) -> Settings
     ensures { result ≡ settings (min rounds 255) (min threshold 65535) }
 {
-    let rounds = byte(rounds);
-    if 65535 < threshold {
-        return Settings {
-            rounds,
-            threshold: 65535,
-        };
-    }
     Settings {
-        rounds,
-        threshold: threshold as u16,
+        rounds: byte(rounds),
+        threshold: u16::try_from(threshold).unwrap_or(u16::MAX),
     }
 }
 
@@ -110,18 +107,15 @@ pub extern "C" fn demosaic_packet_write(
     ensures { Numbered (length_call (fields width height layout (settings rounds threshold)) samples.now out.old written.old) result (out.new, written.new) }
 {
     let f = Fields {
-        width,
-        height,
-        layout: byte(layout),
+        shape: cut_shape(width, height, layout),
         settings: cut_settings(rounds, threshold),
     };
-    let answer = packet::write_packet(f, samples, out);
-    match answer {
-        WrittenPacket::Refused(number) => number,
-        WrittenPacket::Bytes(count) => {
+    match packet::write_packet(f, samples, out) {
+        Ok(count) => {
             *written = count;
             0
         }
+        Err(refusal) => refusal.number(),
     }
 }
 
@@ -130,17 +124,12 @@ pub extern "C" fn demosaic_packet_write(
 pub extern "C" fn demosaic_packet_repeats(a: &[u8], b: &[u8], same: &mut u8) -> u32
     ensures { Numbered (repeat_call a.now b.now same.old) result same.new }
 {
-    let answer = packet::repeats_packet(a, b);
-    match answer {
-        Repeat::Refused(number) => number,
-        Repeat::Yes => {
-            *same = 1;
+    match packet::repeats_packet(a, b) {
+        Ok(repeats) => {
+            *same = u8::from(repeats);
             0
         }
-        Repeat::No => {
-            *same = 0;
-            0
-        }
+        Err(refusal) => refusal.number(),
     }
 }
 
@@ -160,30 +149,15 @@ pub extern "C" fn demosaic_turn(
     ensures { Numbered (turned_call turn (frame width height layout samples.now) out.old (shape turned_width.old turned_height.old turned_layout.old)) result (out.new, shape turned_width.new turned_height.new turned_layout.new) }
 {
     let t = Turn { number: byte(turn) };
-    let given = byte(layout);
-    let answer = turns::turn_samples(t, width, height, given, samples, out);
-    match answer {
-        TurnedFrame::Refused(number) => number,
-        TurnedFrame::Accepted {
-            width: across,
-            height: down,
-            layout: turned,
-        } => {
-            *turned_width = across;
-            *turned_height = down;
-            *turned_layout = turned as u32;
+    let given = cut_shape(width, height, layout);
+    match turns::turn_samples(t, given, samples, out) {
+        Ok(turned) => {
+            *turned_width = turned.width;
+            *turned_height = turned.height;
+            *turned_layout = u32::from(turned.layout);
             0
         }
-    }
-}
-
-// The places of a turned width or height; 0 where it was refused.
-fn places_of(extent: Extent) -> usize
-    ensures { result ≡ places_of extent }
-{
-    match extent {
-        Extent::Places(n) => n,
-        Extent::Refused(_) => 0,
+        Err(refusal) => refusal.number(),
     }
 }
 
@@ -201,18 +175,17 @@ pub extern "C" fn demosaic_turned_shape(
     ensures { Numbered (shape_call turn width height layout (shape turned_width.old turned_height.old turned_layout.old)) result (shape turned_width.new turned_height.new turned_layout.new) }
 {
     let t = Turn { number: byte(turn) };
-    let given = byte(layout);
-    let w = places_of(t.turned_width(width, height, given));
-    let h = places_of(t.turned_height(width, height, given));
-    let answer = t.turned_layout(width, height, given);
-    match answer {
-        TurnedLayout::Refused(number) => number,
-        TurnedLayout::Layout(l) => {
+    let given = cut_shape(width, height, layout);
+    let w = t.turned_width(given).unwrap_or(0);
+    let h = t.turned_height(given).unwrap_or(0);
+    match t.turned_layout(given) {
+        Ok(l) => {
             *turned_width = w;
             *turned_height = h;
-            *turned_layout = l as u32;
+            *turned_layout = u32::from(l);
             0
         }
+        Err(refusal) => refusal.number(),
     }
 }
 
@@ -222,13 +195,12 @@ pub extern "C" fn demosaic_then_another(turn: u32, next: u32, single: &mut u32) 
     ensures { Numbered (single_call turn next single.old) result single.new }
 {
     let t = Turn { number: byte(turn) };
-    let answer = t.then_another(Turn { number: byte(next) });
-    match answer {
-        Composed::Refused(number) => number,
-        Composed::Single(s) => {
-            *single = s.number as u32;
+    match t.then_another(Turn { number: byte(next) }) {
+        Ok(s) => {
+            *single = u32::from(s.number);
             0
         }
+        Err(refusal) => refusal.number(),
     }
 }
 
@@ -245,7 +217,7 @@ pub extern "C" fn demosaic_split(
 ) -> u32
     ensures { Numbered (split_call width height plane.now (bands band1.old band2.old band3.old band4.old)) result (bands band1.new band2.new band3.new band4.new) }
 {
-    bank::split(width, height, plane, band1, band2, band3, band4).number()
+    questions::number(bank::split(width, height, plane, band1, band2, band3, band4))
 }
 
 // Joins four bands into sums; 0 or the refusal's number.
@@ -261,7 +233,7 @@ pub extern "C" fn demosaic_join(
 ) -> u32
     ensures { Numbered (join_call width height (bands band1.now band2.now band3.now band4.now) sums.old) result sums.new }
 {
-    bank::join(width, height, band1, band2, band3, band4, sums).number()
+    questions::number(bank::join(width, height, band1, band2, band3, band4, sums))
 }
 
 // A joined sum, brought back.
@@ -285,8 +257,8 @@ pub extern "C" fn demosaic_estimate(
 ) -> u32
     ensures { Numbered (estimate_call ceiling (frame width height layout mosaic.now) (planes red.old green.old blue.old)) result (planes red.new green.new blue.new) }
 {
-    let given = byte(layout);
-    estimate::estimate(width, height, given, mosaic, red, green, blue).number()
+    let given = cut_shape(width, height, layout);
+    questions::number(estimate::estimate(given, mosaic, red, green, blue))
 }
 
 // Updates a green estimate in place; 0 or the refusal's number.
@@ -301,8 +273,8 @@ pub extern "C" fn demosaic_update(
 ) -> u32
     ensures { Numbered (update_call ceiling (frame width height layout mosaic.now) green.old work.old) result (green.new, work.new) }
 {
-    let given = byte(layout);
-    update::update(width, height, given, mosaic, green, work).number()
+    let given = cut_shape(width, height, layout);
+    questions::number(update::update(given, mosaic, green, work))
 }
 
 // Runs the rounds on three given planes, red and blue in place; 0 or the refusal's number.
@@ -322,12 +294,9 @@ pub extern "C" fn demosaic_rounds(
 ) -> u32
     ensures { Numbered (rounds_call (frame width height layout mosaic.now) (settings rounds threshold) (lent red.old green.now blue.old work.old wide_work.old)) result (lent red.new green.now blue.new work.new wide_work.new) }
 {
-    let given = byte(layout);
+    let given = cut_shape(width, height, layout);
     let settings = cut_settings(rounds, threshold);
-    rounds::rounds(
-        width, height, given, settings, mosaic, red, green, blue, work, wide_work,
-    )
-    .number()
+    questions::number(rounds::rounds(given, settings, mosaic, red, green, blue, work, wide_work))
 }
 
 // Finishes a frame into three planes; 0 or the refusal's number. C keeps the tally, by the three calls below.
@@ -347,12 +316,11 @@ pub extern "C" fn demosaic_finish(
 ) -> u32
     ensures { Numbered (finish_call (frame width height layout mosaic.now) (settings rounds threshold) (lent red.old green.old blue.old work.old wide_work.old)) result (lent red.new green.new blue.new work.new wide_work.new) }
 {
-    let given = byte(layout);
+    let given = cut_shape(width, height, layout);
     let settings = cut_settings(rounds, threshold);
-    let answer = finishing::finish_frame(
-        width, height, given, settings, mosaic, red, green, blue, work, wide_work,
-    );
-    answer.number()
+    questions::number(finishing::finish_frame(
+        given, settings, mosaic, red, green, blue, work, wide_work,
+    ))
 }
 
 // Each count of a tally after a finishing call that answered this number.
@@ -396,37 +364,33 @@ pub extern "C" fn demosaic_spot(
 ) -> u32
     ensures { Numbered (reading_call width height (planes red.now green.now blue.now) row column (spot_numbers spot_red.old spot_green.old spot_blue.old lit.old reading.old)) result (spot_numbers spot_red.new spot_green.new spot_blue.new lit.new reading.new) }
 {
-    let old = Spot {
-        red: *spot_red,
-        green: *spot_green,
-        blue: *spot_blue,
-    };
-    let kept = Kept {
-        spot: old,
+    let mut kept = Kept {
+        spot: Spot {
+            red: *spot_red,
+            green: *spot_green,
+            blue: *spot_blue,
+        },
         lit: 0 < *lit,
     };
-    let answer = spot::read_spot(width, height, red, green, blue, row, column, kept);
-    match answer {
-        SpotAnswer::Refused(number, _) => number,
-        SpotAnswer::Accepted(found, _) => match found {
-            Reading::Starting => {
-                *lit = 0;
-                *reading = 0;
-                0
-            }
-            Reading::Dark => {
-                *lit = 1;
-                *reading = 1;
-                0
-            }
-            Reading::Steady(new) => {
-                *spot_red = new.red;
-                *spot_green = new.green;
-                *spot_blue = new.blue;
-                *lit = 1;
-                *reading = 2;
-                0
-            }
-        },
+    match spot::read_spot(width, height, red, green, blue, row, column, &mut kept) {
+        Ok(Reading::Starting) => {
+            *lit = 0;
+            *reading = 0;
+            0
+        }
+        Ok(Reading::Dark) => {
+            *lit = 1;
+            *reading = 1;
+            0
+        }
+        Ok(Reading::Steady(new)) => {
+            *spot_red = new.red;
+            *spot_green = new.green;
+            *spot_blue = new.blue;
+            *lit = 1;
+            *reading = 2;
+            0
+        }
+        Err(refusal) => refusal.number(),
     }
 }

@@ -1,68 +1,37 @@
 -- The laws of what lies outside a limit, and of what the projection's sums read and how large they grow. Assumes nothing.
 use mathlib.Core.Path.{◌≡◌, refl, sym, ◌∙◌, ap, subst}
-use mathlib.Core.Bool.{true, false}
-use mathlib.Core.List.{List, [], ◌∷◌}
-use Prim.Native.Nat.{ℕ, suc, ◌+◌, ◌*◌, ◌-◌, ◌≤◌, ◌<◌}
-use native.Mathlib.Decide.{dec_lt}
+use mathlib.Core.List.{List}
+use Prim.Native.Nat.{ℕ, ◌+◌, ◌*◌, ◌≤◌, ◌<◌}
 use native.Mathlib.Nat.{zero-add}
 use native.Mathlib.Omega.{arith}
 use lib.Dec.{T}
-use lib.IntN.{ℤ, pos, negsuc, neg_ℤ, nat_abs, ◌+ℤ◌, ◌-ℤ◌, +ℤ_idl, +ℤ_idr}
+use lib.IntN.{ℤ, pos, negsuc, nat_abs, ◌+ℤ◌, ◌-ℤ◌}
 use lib.ListN.{length}
-use lib.Signed.{lt_z, non_neg}
-use borrow.Author.Tests.{le-ltb}
+use lib.Signed.{non_neg}
+use Rattle.std.specs.Int.{int_max, int_min}
+use Rattle.std.proofs.lemmas.Int.{ints, clamps}
 use mir.Syntax.{w32}
 use mir.Val.{to_z, of_z}
 use mir.Facts.{to_z-of_z as back}
 use Rattle.integers.specs.Lists.{overwrite}
 use Rattle.integers.proofs.Lists.{overwrite_cong}
-use Rattle.integers.proofs.Bounds.{fits_abs, minus_pos, minus_neg}
-use Rattle.integers.proofs.Tests.{never}
-use Rattle.integers.proofs.Linear.{linear, neg, x₀, x₁, ◌⊕◌, ◌⊖◌}
+use Rattle.integers.proofs.Bounds.{fits_abs}
 use Rattle.planes.specs.Lists.{value}
 use Rattle.filters.specs.Bank.{Taps, weighted, low_split, high_split, high_join, along}
 use Rattle.filters.proofs.Ranges.{gain, weighted_range}
 use Rattle.lines.specs.declared.Five.{Five}
 use Rattle.lines.specs.Lines.{Run, spaced, three, padded}
-use Rattle.lines.proofs.Lines.{run_wider, read_small, three_small, three_read, three_range, three_runs, three-along, five_runs, five_places}
+use Rattle.lines.proofs.Lines.{run_wider, three_small, three_read, three_range, three_runs, three-along, five_runs, five_places}
 use Rattle.projection.specs.Fast.{excess, outer_part, crossed_along}
 use Rattle.projection.proofs.Parts.{crossed_same}
 use Rattle.projection.proofs.Outside.{excess_pos, excess_negsuc, excess_bound}
-use Rattle.details.specs.Details.{above_zero, below_zero, Triple, outer, from_place, crossed, Crossing}
+use Rattle.details.specs.Details.{Triple, outer, from_place, crossed, Crossing}
 
 -- ---- what lies outside a limit, as a sum of two
-not_under_zero : (a : ℕ) → lt_z (pos a) (pos 0) ≡ false
-not_under_zero a = le-ltb a 0 (omega arith)
-
-pub excess_parts : (limit z : ℤ) → T (non_neg limit) → above_zero (z -ℤ limit) +ℤ below_zero (z +ℤ limit) ≡ excess limit z
+pub excess_parts : (limit z : ℤ) → T (non_neg limit) → int_max (z -ℤ limit) (pos 0) +ℤ int_min (z +ℤ limit) (pos 0) ≡ excess limit z
 excess_parts (negsuc m) z s = absurd s
-excess_parts (pos m) (pos a) s = go (dec_lt a m) ∙ sym (excess_pos m a)
-  where
-    go : Dec (a < m) → above_zero (pos a -ℤ pos m) +ℤ below_zero (pos a +ℤ pos m) ≡ pos (a - m)
-    go (yes h) = unfold above_zero below_zero in (λ i. above_zero (minus_neg a m h i) +ℤ pos 0) ∙ ap pos (let e : 0 ≡ a - m = omega arith in e)
-    go (no h) = unfold above_zero below_zero in (λ i. above_zero (minus_pos a m (omega arith) i) +ℤ pos 0) ∙ +ℤ_idr (pos (a - m))
-excess_parts (pos m) (negsuc a) s = ap (λ x. above_zero x +ℤ below_zero (negsuc a +ℤ pos m)) under ∙ ap (λ x. above_zero (negsuc (a + m)) +ℤ below_zero x) back_by ∙ go (dec_lt m (suc a)) ∙ sym (excess_negsuc m a)
-  where
-    under : negsuc a -ℤ pos m ≡ negsuc (a + m)
-    under = linear (pos (suc a) ∷ pos m ∷ []) (neg x₀ ⊖ x₁) (neg (x₀ ⊕ x₁)) tt ∙ ap (λ (k : ℕ). neg_ℤ (pos k)) (let e : suc a + m ≡ suc (a + m) = omega arith in e)
-
-    back_by : negsuc a +ℤ pos m ≡ pos m -ℤ pos (suc a)
-    back_by = linear (pos (suc a) ∷ pos m ∷ []) (neg x₀ ⊕ x₁) (x₁ ⊖ x₀) tt
-
-    go : Dec (m < suc a) → above_zero (negsuc (a + m)) +ℤ below_zero (pos m -ℤ pos (suc a)) ≡ neg_ℤ (pos (suc a - m))
-    go (yes h) = unfold above_zero below_zero in (λ i. pos 0 +ℤ below_zero (minus_neg m (suc a) h i)) ∙ +ℤ_idl (negsuc (suc a - suc m)) ∙ ap (λ (k : ℕ). neg_ℤ (pos k)) (let e : suc (suc a - suc m) ≡ suc a - m = omega arith in e)
-    go (no h) = unfold above_zero below_zero in (λ i. pos 0 +ℤ below_zero (minus_pos m (suc a) (omega arith) i)) ∙ ap (λ (k : ℕ). neg_ℤ (pos k)) (let e : 0 ≡ suc a - m = omega arith in e)
-
--- by the one test, whatever the machine reads
-pub above_zero_is : (x : ℤ) → (lt_z x (pos 0) ≡ true → pos 0 ≡ above_zero x) × (lt_z x (pos 0) ≡ false → x ≡ above_zero x)
-unfolding above_zero
-above_zero_is (pos a) = (λ e. never (sym e ∙ not_under_zero a), λ e. refl)
-above_zero_is (negsuc a) = (λ e. refl, λ e. never e)
-
-pub below_zero_is : (x : ℤ) → (lt_z x (pos 0) ≡ true → x ≡ below_zero x) × (lt_z x (pos 0) ≡ false → pos 0 ≡ below_zero x)
-unfolding below_zero
-below_zero_is (pos a) = (λ e. never (sym e ∙ not_under_zero a), λ e. refl)
-below_zero_is (negsuc a) = (λ e. refl, λ e. never e)
+excess_parts (pos m) (pos a) s = omega (arith, ints, clamps, excess_pos m a)
+excess_parts (pos m) (negsuc a) s = omega (arith, ints, clamps, excess_negsuc m a)
 
 -- ---- what the machine reads of a list
 abbrev read : List ℤ → ℕ → ℤ
@@ -82,10 +51,6 @@ module _ (t : Taps) {m : ℕ} {l : List ℤ} {d n : ℕ} (r : Triple m l d n) (k
 
 -- ---- five places, of one list and of another in turn
 module _ {m : ℕ} {x y : List ℤ} {v : Five} {n : ℕ} (r : Crossing m x y v n) (k : ℕ) (i : k < n) where
-  pub crossing_small : (most : ℕ) → m ≤ most
-      → (nat_abs (read x (v.a + k)) ≤ most) × (nat_abs (read y (v.b + k)) ≤ most) × (nat_abs (read x (v.c + k)) ≤ most) × (nat_abs (read y (v.d + k)) ≤ most) × (nat_abs (read x (v.e + k)) ≤ most)
-  crossing_small most h = (read_small most h r.first k i, read_small most h r.second k i, read_small most h r.third k i, read_small most h r.fourth k i, read_small most h r.fifth k i)
-
   pub crossing_read : m < 2147483648 → weighted high_join (read x (v.a + k)) (read y (v.b + k)) (read x (v.c + k)) (read y (v.d + k)) (read x (v.e + k)) ≡ crossed x y v k
   unfolding crossed
   crossing_read h = λ j. weighted high_join (at r.first j) (at r.second j) (at r.third j) (at r.fourth j) (at r.fifth j)

@@ -1,6 +1,6 @@
 -- The sums of the projection, along lines that stand in lists: what of a difference's details lies outside a limit, and what those
 -- parts are joined to. Assumes nothing.
-use Rattle.std.specs.Prelude.{List, ℕ, ◌+◌, ◌*◌, ℤ, pos, negsuc, ◌+ℤ◌, ◌-ℤ◌, ◌*ℤ◌, get_or}
+use Rattle.std.specs.Prelude.{List, ℕ, ◌+◌, ◌*◌, ℤ, pos, ◌+ℤ◌, ◌-ℤ◌, ◌*ℤ◌, get_or}
 use Rattle.planes.specs.Lists.{value}
 use Rattle.filters.specs.Bank.{Taps, weighted, low_split, high_split, high_join, rescaled}
 use Rattle.lines.specs.declared.Five.{Five}
@@ -21,15 +21,6 @@ pub record Triple (m : ℕ) (line : List ℤ) (d n : ℕ) : Type 0 where
   pub first : Run m line 0 n
   pub second : Run m line d n
   pub third : Run m line (2 * d) n
-
--- what of a number lies above 0, and what below
-unfoldable pub above_zero : ℤ → ℤ
-above_zero (pos a) = pos a
-above_zero (negsuc a) = pos 0
-
-unfoldable pub below_zero : ℤ → ℤ
-below_zero (pos a) = pos 0
-below_zero (negsuc a) = negsuc a
 
 -- what of a split filter's value lies outside the limit
 unfoldable pub outer : Taps → ℤ → ℕ → List ℤ → ℕ → ℤ

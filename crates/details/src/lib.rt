@@ -1,5 +1,6 @@
 // Inner: the sums of the projection, along lines, with taps d places apart. No loop over a line reflects or branches, so that each is a loop
 // over vectors, with d as a plain number at run time too.
+// A list comes with a place in it, and is no part cut from it (docs/DECISIONS.md, "Lent lists").
 #![tactic(auto)]
 
 ghost use Rattle.std.specs.Prelude.{◌≡◌, ◌+◌, ◌*◌, ◌≤◌, ◌<◌, nat_abs, pos, ◌+ℤ◌, ◌-ℤ◌, length};
@@ -8,17 +9,18 @@ ghost use Rattle.planes.specs.Lists.{InRow, value};
 ghost use Rattle.filters.specs.Bank.{Distance, Ends, low_split, high_split, high_join, along};
 ghost use Rattle.lines.specs.Lines.{Run, spaced, padded};
 ghost use Rattle.projection.specs.Fast.{excess as outside, outer_part, crossed_along};
-ghost use Rattle.details.specs.Details.{difference_line, above_zero, below_zero, Triple, outer, outer_minus, outer_plus, from_place, crossed, Crossing, joined_apart, joined_together, settled};
+ghost use Rattle.details.specs.Details.{difference_line, Triple, outer, outer_minus, outer_plus, from_place, crossed, Crossing, joined_apart, joined_together, settled};
 
 // A value less the guide's sample.
 fn difference(x: i32, guide: u16) -> i32
     requires { nat_abs x ≤ 1073741824 }
     ensures { result ≡ x -ℤ pos guide }
 {
-    x - guide as i32
+    x - i32::from(guide)
 }
 
-// A line of n, from `at` on, less the guide's samples, which stand `step` apart: into `out`, from `to` on.
+// A line of n, from `at` on, less the guide's samples, which stand `step` apart: into `out`, from `to` on. Lent lists go one by
+// one (docs/DECISIONS.md, "Lent lists").
 pub fn difference_line(
     own: &[i32],
     at: usize,
@@ -32,25 +34,9 @@ pub fn difference_line(
     requires { Run 1073741824 own.now at n × InRow guide.now from n step × (to + n ≤ length out.old) }
     ensures { out.new ≡ overwrite out.old to n (difference_line own.now at guide.now from step) }
 {
-    let mut k = 0;
-    while k < n {
+    for k in 0..n {
         out[to + k] = difference(own[at + k], guide[from + k * step]);
-        k += 1;
     }
-}
-
-// What of x lies above 0.
-fn above_zero(x: i32) -> i32
-    ensures { result ≡ above_zero x }
-{
-    if x < 0 { 0 } else { x }
-}
-
-// And below it.
-fn below_zero(x: i32) -> i32
-    ensures { result ≡ below_zero x }
-{
-    if x < 0 { x } else { 0 }
 }
 
 // The part of z outside −limit..limit. A sum of two takes fewer operations on vectors than a choice of three.
@@ -58,29 +44,7 @@ fn excess(limit: i32, z: i32) -> i32
     requires { Distance limit × (nat_abs z ≤ 536870912) }
     ensures { result ≡ outside limit z }
 {
-    above_zero(z - limit) + below_zero(z + limit)
-}
-
-// What of the high split filter's value lies outside the limit, at place k along a padded line of n.
-fn outer_high(line: &[i32], limit: i32, d: usize, n: usize, k: usize) -> i32
-    requires { Distance limit × Triple 134217728 line.now d n × (k < n) }
-    ensures { result ≡ outer high_split limit d line.now k }
-{
-    excess(
-        limit,
-        filters::high_split(line[k], line[d + k], line[2 * d + k]),
-    )
-}
-
-// And of the low one's.
-fn outer_low(line: &[i32], limit: i32, d: usize, n: usize, k: usize) -> i32
-    requires { Distance limit × Triple 134217728 line.now d n × (k < n) }
-    ensures { result ≡ outer low_split limit d line.now k }
-{
-    excess(
-        limit,
-        filters::low_split(line[k], line[d + k], line[2 * d + k]),
-    )
+    (z - limit).max(0) + (z + limit).min(0)
 }
 
 // Along a padded line of n that is low along the columns, what of band 2 lies outside the limit.
@@ -88,10 +52,9 @@ pub fn outer_line(line: &[i32], limit: i32, d: usize, n: usize, out: &mut [i32],
     requires { Distance limit × Triple 134217728 line.now d n × (at + n ≤ length out.old) }
     ensures { out.new ≡ overwrite out.old at n (outer high_split limit d line.now) }
 {
-    let mut k = 0;
-    while k < n {
-        out[at + k] = outer_high(line, limit, d, n, k);
-        k += 1;
+    for k in 0..n {
+        let high = filters::high_split(line[k], line[d + k], line[2 * d + k]);
+        out[at + k] = excess(limit, high);
     }
 }
 
@@ -109,18 +72,21 @@ pub fn outer_lines(
     ensures minus_after { minus.new ≡ overwrite minus.old at n (outer_minus limit d line.now) }
     ensures plus_after { plus.new ≡ overwrite plus.old at n (outer_plus limit d line.now) }
 {
-    let mut k = 0;
-    while k < n {
-        let q = outer_high(line, limit, d, n, k);
-        let p = outer_low(line, limit, d, n, k);
+    for k in 0..n {
+        let x = line[k];
+        let y = line[d + k];
+        let z = line[2 * d + k];
+        let q = excess(limit, filters::high_split(x, y, z));
+        let p = excess(limit, filters::low_split(x, y, z));
         minus[at + k] = q - p;
         plus[at + k] = q + p;
-        k += 1;
     }
 }
 
 // Lines of n, from place d of `low` and of `high` on, which are low and high along the columns: what of the details along them lies outside
-// the limit, from place 2·d on. The places beside the two lines are scratch.
+// the limit, from place 2·d on. The places beside the two lines are scratch. Inlined, so that each sweep has d as a constant.
+// Lent lists go one by one (docs/DECISIONS.md, "Lent lists").
+#[inline(always)]
 pub fn outer_along(
     low: &mut [i32],
     high: &mut [i32],
@@ -158,7 +124,7 @@ pub fn crossed_at(x: &[i32], y: &[i32], starts: lines::Five, n: usize, k: usize)
     )
 }
 
-// The joined parts of a row, along three padded lines of parts: their difference and their sum, from `at` on.
+// The joined parts of a row, along three padded lines of parts: their difference and their sum, from `at` on. Lent lists go one by one (docs/DECISIONS.md, "Lent lists").
 pub fn join_parts(
     parts: &[i32],
     minus: &[i32],
@@ -174,8 +140,7 @@ pub fn join_parts(
     ensures apart_after { apart.new ≡ overwrite apart.old at n (joined_apart d parts.now minus.now plus.now) }
     ensures together_after { together.new ≡ overwrite together.old at n (joined_together d parts.now minus.now plus.now) }
 {
-    let mut k = 0;
-    while k < n {
+    for k in 0..n {
         let starts = lines::Five {
             a: 0,
             b: d,
@@ -187,12 +152,12 @@ pub fn join_parts(
         let q = crossed_at(minus, plus, starts, n, k);
         apart[at + k] = q - p;
         together[at + k] = q + p;
-        k += 1;
     }
 }
 
 // Lines of n, from place 2·d of `parts`, `minus` and `plus` on, joined along them: the difference and the sum of what the two give, from `at`
-// on. The places beside the three lines are scratch.
+// on. The places beside the three lines are scratch. Inlined, as `outer_along`. Lent lists go one by one (docs/DECISIONS.md, "Lent lists").
+#[inline(always)]
 pub fn join_along(
     parts: &mut [i32],
     minus: &mut [i32],
@@ -216,7 +181,7 @@ pub fn join_along(
     join_parts(parts, minus, plus, d, n, apart, together, at);
 }
 
-// A line of n, from `at` on, less what is joined from five rows of the joined parts along the columns.
+// A line of n, from `at` on, less what is joined from five rows of the joined parts along the columns. Lent lists go one by one (docs/DECISIONS.md, "Lent lists").
 pub fn settle_line(
     own: &mut [i32],
     at: usize,
@@ -230,10 +195,8 @@ pub fn settle_line(
     requires { Run 131070 own.old at n × Crossing 134217728 apart.now together.now starts n × Ends least most }
     ensures { own.new ≡ overwrite own.old at n (λ k. settled least most (value own.old (at + k)) (crossed apart.now together.now starts k)) }
 {
-    let mut k = 0;
-    while k < n {
+    for k in 0..n {
         let sum = crossed_at(apart, together, starts, n, k);
         own[at + k] = filters::rescale_less(own[at + k], sum, least, most);
-        k += 1;
     }
 }

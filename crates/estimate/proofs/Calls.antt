@@ -1,5 +1,5 @@
 -- What an accepted estimate call knows. Assumes nothing.
-use mathlib.Core.Path.{◌≡◌}
+use mathlib.Core.Path.{◌≡◌, refl}
 use Prim.Native.Nat.{ℕ, ◌*◌}
 use lib.ListN.{length}
 use borrow.Author.Tests.{eqb-true}
@@ -16,9 +16,9 @@ pub record Estimable (f : Frame) (rooms : Planes ℕ) : Type 0 where
   pub green : rooms.green ≡ f.width * f.height
   pub blue : rooms.blue ≡ f.width * f.height
 
-pub estimable : (top : ℕ) (f : Frame) (rooms : Planes ℕ) (n : ℕ) → n ≡ ask (estimate_questions top f rooms) → n ≡ 0 → Estimable f rooms
-estimable top f rooms n e z =
-    let y = all_yes (estimate_questions top f rooms) tt n e z in
+pub estimable : (top : ℕ) (f : Frame) (rooms : Planes ℕ) → 0 ≡ ask (estimate_questions top f rooms) → Estimable f rooms
+estimable top f rooms e =
+    let y = all_yes (estimate_questions top f rooms) tt 0 e refl in
     let q = y.1.1.1 in
     let count = f.width * f.height in
     record {

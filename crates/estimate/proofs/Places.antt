@@ -1,11 +1,11 @@
 -- The three planes at a place, from its neighbourhood as an array. Assumes nothing.
-use mathlib.Core.Path.{◌≡◌, refl, ◌∙◌}
-use mathlib.Core.Bool.{Bool, true, false, not, beq}
+use mathlib.Core.Path.{◌≡◌, ◌∙◌}
+use mathlib.Core.Bool.{Bool, not}
 use mathlib.Core.List.{List}
 use Prim.Native.Nat.{ℕ}
 use Rattle.planes.specs.Layout.{by_parity, on_red_row, on_red_column}
 use Rattle.turns.specs.Operations.{nearby}
-use Rattle.neighbourhood.specs.Place.{neighbourhood, around, bilinear}
+use Rattle.neighbourhood.specs.Place.{neighbourhood, around}
 use Rattle.neighbourhood.proofs.Places.{bilinear_read, green_read}
 use Rattle.estimate.specs.Estimates.{estimate_at, estimate}
 
@@ -16,20 +16,3 @@ module _ (w h : ℕ) (plane : ℕ → ℕ → ℕ) (r c : ℕ) where
   placed top l {row} {column} e f g =
       (λ i. estimate_at top (e i) (f i) (around (g i)))
       ∙ (λ i. record { red = bilinear_read w h plane r c (on_red_row l r) (on_red_column l c) i; green = green_read w h plane r c top (by_parity (on_red_row l r) (on_red_column l c)) i; blue = bilinear_read w h plane r c (not (on_red_row l r)) (not (on_red_column l c)) i })
-
-  -- red and blue, by whether a parity is red's where red is asked for
-  pub red_placed : (top l : ℕ) → bilinear (beq (on_red_row l r) true) (beq (on_red_column l c) true) (around (neighbourhood w h plane r c)) ≡ (estimate top w h l plane r c).red
-  unfolding estimate nearby estimate_at
-  red_placed top l = (λ i. bilinear (own (on_red_row l r) i) (own (on_red_column l c) i) (around (neighbourhood w h plane r c))) ∙ bilinear_read w h plane r c (on_red_row l r) (on_red_column l c)
-    where
-      own : (a : Bool) → beq a true ≡ a
-      own true = refl
-      own false = refl
-
-  pub blue_placed : (top l : ℕ) → bilinear (beq (on_red_row l r) false) (beq (on_red_column l c) false) (around (neighbourhood w h plane r c)) ≡ (estimate top w h l plane r c).blue
-  unfolding estimate nearby estimate_at
-  blue_placed top l = (λ i. bilinear (other (on_red_row l r) i) (other (on_red_column l c) i) (around (neighbourhood w h plane r c))) ∙ bilinear_read w h plane r c (not (on_red_row l r)) (not (on_red_column l c))
-    where
-      other : (a : Bool) → beq a false ≡ not a
-      other true = refl
-      other false = refl

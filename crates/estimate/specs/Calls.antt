@@ -4,7 +4,6 @@ use Rattle.planes.specs.Planes.{Frame, Planes, lengths, listings, plane_of}
 use Rattle.questions.specs.Questions.{Question, shape_questions, samples_question}
 use Rattle.questions.specs.Lent.{room_questions}
 use Rattle.questions.specs.Calls.{Call, plain_call}
-use Rattle.questions.specs.declared.Answer.{Answer}
 use Rattle.estimate.specs.Estimates.{estimate}
 
 -- ---- the questions, in document 01's order: 1, 2, 3, 6, 7 of each plane, and 9 with ceiling `top`
@@ -19,5 +18,5 @@ unfoldable pub estimate_lists : ℕ → Frame → Planes (List ℕ)
 estimate_lists top f = listings f.width f.height (estimate top f.width f.height f.layout (plane_of 0 f.width f.samples))
 
 -- the estimate call with ceiling `top`, given frame f and three planes that held `before`: they hold its estimates then
-abbrev pub estimate_call : ℕ → Frame → Planes (List ℕ) → Call Answer (Planes (List ℕ))
+abbrev pub estimate_call : ℕ → Frame → Planes (List ℕ) → Call (Unit {0}) (Planes (List ℕ))
 estimate_call top f before = plain_call (estimate_questions top f (lengths before)) (estimate_lists top f) before

@@ -1,9 +1,10 @@
 -- Document 01, "First estimates", on a plane: the three planes of a mosaic. Assumes nothing.
 use Rattle.std.specs.Prelude.{Bool, not, ℕ}
 use Rattle.planes.specs.Layout.{by_parity}
-use Rattle.planes.specs.Planes.{Planes}
+use Rattle.planes.specs.Planes.{Planes, plane_of}
 use Rattle.turns.specs.Operations.{Operation, Around, nearby}
 use Rattle.neighbourhood.specs.Place.{green_at, bilinear}
+use Rattle.neighbourhood.specs.declared.Frame.{Frame}
 
 -- at a place, by whether the place's row, and its column, have red's parity; blue has the other parity in both
 unfoldable pub estimate_at : ℕ → Bool → Bool → Around ℕ → Planes ℕ
@@ -16,3 +17,7 @@ estimate_at top on_row on_column n = record {
 -- at every place, from its reflected neighbours
 unfoldable pub estimate : ℕ → Operation ℕ (Planes ℕ)
 estimate top = nearby (estimate_at top)
+
+-- of a frame as the code has it
+abbrev pub estimates : ℕ → Frame → ℕ → ℕ → Planes ℕ
+estimates top f = estimate top f.shape.width f.shape.height f.shape.layout (plane_of 0 f.shape.width f.samples.now)

@@ -1,4 +1,5 @@
 // Inner: the filters of document 01's bank, one number at a time. LLVM inlines each, so that the loops over them are uniform.
+// Bounds stay in contracts: a bounded number as a type would be taken out of it in every loop.
 #![tactic(auto)]
 
 ghost use Rattle.std.specs.Prelude.{◌≡◌, ◌≤◌, pos, nat_abs, ◌-ℤ◌, ◌*ℤ◌};
@@ -37,7 +38,7 @@ pub fn high_join(a: i32, b: i32, c: i32, d: i32, e: i32) -> i32
     2 * (b - 3 * c + d) + (a + e)
 }
 
-// z, held within least..most.
+// z, held within least..most. `i32::clamp` asks that least is at most most: this contract asks its callers for nothing.
 pub fn clipped(z: i32, least: i32, most: i32) -> i32
     ensures { result ≡ clamp least most z }
 {

@@ -12,30 +12,30 @@ use Rattle.planes.specs.Planes.{Frame, frame, Planes}
 use Rattle.questions.specs.Settings.{ceiling_of}
 use Rattle.questions.specs.Questions.{question, ask, between}
 use Rattle.questions.specs.Lent.{Lent, Rooms, rooms_of, wide_enough}
-use Rattle.questions.specs.Calls.{Call, Result, Numbered, number_of_answer}
+use Rattle.std.proofs.Common.{Result, Ok, Err}
+use Rattle.questions.specs.Refusals.{Answer, number_of}
+use Rattle.questions.specs.declared.Shape.{Shape}
+use Rattle.questions.specs.declared.Refusal.{Refusal}
+use Rattle.questions.specs.Calls.{Call, Outcome, Numbered}
 use Rattle.questions.specs.declared.Settings.{Settings}
-use Rattle.questions.specs.declared.Answer.{Answer}
 use Rattle.questions.proofs.Asking.{between_yes}
 use Rattle.questions.proofs.Answering.{to_number, new_left}
 use Rattle.tally.specs.declared.Tally.{Tally}
 use Rattle.turns.specs.Frames.{turn_frame}
 use Rattle.turns.specs.Turning.{turn_questions, turn_call}
-use Rattle.turns.specs.declared.TurnedFrame.{TurnedFrame}
-use Rattle.turns.specs.declared.TurnedFrame.TheVariants.{Accepted, Refused}
 use Rattle.turns.proofs.Frames.{turned-whole, all_at_most-turned, layout_turned, level_turned}
 use Rattle.turns.proofs.Calls.{frame_width, frame_height, Fillable, fillable}
 use Rattle.finishing.specs.Finishing.{finish_lists}
-use Rattle.finishing.specs.Calls.{finish_questions, finish_call, finish_given, number_of_finish, FinishResult}
+use Rattle.finishing.specs.Calls.{finish_questions, finish_call, finish_given, FinishResult}
 use Rattle.finishing.specs.Turnings.{TurnRun, frame_after, TurnHistory, standing, if_turned, accepted_turns, turned_through, turned_planes, Alike, both_accepted, both_refused}
-use Rattle.finishing.specs.declared.FinishAnswer.{FinishAnswer}
 use Rattle.finishing.proofs.Turned.{finished_turned}
 
 -- ---- an accepted turning call
-module _ (t : ℕ) (f : Frame) {before after : List ℕ} {r : TurnedFrame} (u : Result (turn_call t f before) r after) (z : ask (turn_questions t f (length before)) ≡ 0) where
+module _ (t : ℕ) (f : Frame) {before after : List ℕ} {r : Result Shape Refusal} (u : Outcome (turn_call t f before) r after) (z : ask (turn_questions t f (length before)) ≡ 0) where
   -- leaves the turned frame
   pub leaves_turned : frame_after f r after ≡ turn_frame t f
   leaves_turned =
-      ap (λ (a : TurnedFrame). frame_after f a after) (u.answer.accepted z)
+      ap (λ (a : Result Shape Refusal). frame_after f a after) (u.answer.accepted z)
       ∙ (λ i. frame (turn_frame t f).width (turn_frame t f).height (turn_frame t f).layout (filled i))
     where
       filled : after ≡ (turn_frame t f).samples
@@ -80,19 +80,19 @@ module _ (t : ℕ) (f : Frame) {other : ℕ} (k : Fillable f.width f.height f.la
 
 -- ---- a turning call, accepted or refused
 -- what stands is the frame turned by the turn, if it was accepted
-stands-turned : (t : ℕ) (f : Frame) (before : List ℕ) (r : TurnedFrame) (after : List ℕ) → Result (turn_call t f before) r after
+stands-turned : (t : ℕ) (f : Frame) (before : List ℕ) (r : Result Shape Refusal) (after : List ℕ) → Outcome (turn_call t f before) r after
     → (ts : List ℕ) → turned_through ts (frame_after f r after) ≡ turned_through (if_turned r t ts) f
 unfolding turned_through
-stands-turned t f before (Accepted width height layout) after u ts = ap (turned_through ts) (leaves_turned t f u (sym u.answer.number))
-stands-turned t f before (Refused number) after u ts = refl
+stands-turned t f before (Ok turned) after u ts = ap (turned_through ts) (leaves_turned t f u (sym u.answer.number))
+stands-turned t f before (Err why) after u ts = refl
 
 -- and its questions are answered alike
-questions_kept : (t : ℕ) (f : Frame) (before : List ℕ) (r : TurnedFrame) (after : List ℕ) → Result (turn_call t f before) r after
+questions_kept : (t : ℕ) (f : Frame) (before : List ℕ) (r : Result Shape Refusal) (after : List ℕ) → Outcome (turn_call t f before) r after
     → (s : Settings) (room : Rooms) → finish_questions (frame_after f r after) s room ≡ finish_questions f s room
-questions_kept t f before (Accepted width height layout) after u s room =
+questions_kept t f before (Ok turned) after u s room =
     ap (λ (g : Frame). finish_questions g s room) (leaves_turned t f u (sym u.answer.number))
-    ∙ questions_turned t f (fillable t f.width f.height f.layout (length f.samples) (length before) 0 u.answer.number refl) s room
-questions_kept t f before (Refused number) after u s room = refl
+    ∙ questions_turned t f (fillable t f.width f.height f.layout (length f.samples) (length before) u.answer.number) s room
+questions_kept t f before (Err why) after u s room = refl
 
 -- ---- any list of them
 standing-turned : (f : Frame) (runs : List TurnRun) → TurnHistory f runs → standing f runs ≡ turned_through (accepted_turns runs) f
@@ -122,10 +122,10 @@ pub demand_3_numbered : (f : Frame) (turnings : List TurnRun) → TurnHistory f 
 demand_3_numbered f turnings h s before₁ before₂ room {n₁} {n₂} {after₁} {after₂} p q =
     alike_by (accepted_turns turnings) f n₁ n₂ after₁.three after₂.three (p.number ∙ ap ask alike ∙ sym q.number) turned
   where
-    first : Call Answer Lent
+    first : Call (Unit {0}) Lent
     first = finish_call f s before₁
 
-    second : Call Answer Lent
+    second : Call (Unit {0}) Lent
     second = finish_call (standing f turnings) s before₂
 
     alike : first.questions ≡ second.questions
@@ -139,16 +139,16 @@ demand_3_numbered f turnings h s before₁ before₂ room {n₁} {n₂} {after�
 
 -- The same of the finishing call's answers.
 pub demand_3 : (f : Frame) (turnings : List TurnRun) → TurnHistory f turnings → (s : Settings) (before₁ before₂ : Lent) → rooms_of before₁ ≡ rooms_of before₂
-    → {r₁ r₂ : Answer} {after₁ after₂ : Lent} → Result (finish_call f s before₁) r₁ after₁ → Result (finish_call (standing f turnings) s before₂) r₂ after₂
-    → Alike (accepted_turns turnings) f (number_of_answer r₁) (number_of_answer r₂) after₁.three after₂.three
+    → {r₁ r₂ : Answer} {after₁ after₂ : Lent} → Outcome (finish_call f s before₁) r₁ after₁ → Outcome (finish_call (standing f turnings) s before₂) r₂ after₂
+    → Alike (accepted_turns turnings) f (number_of r₁) (number_of r₂) after₁.three after₂.three
 demand_3 f turnings h s before₁ before₂ room p q =
     demand_3_numbered f turnings h s before₁ before₂ room (to_number p refl) (to_number q refl)
 
 -- And of the call with a tally, with any two tallies.
 pub demand_3_counted : (f : Frame) (turnings : List TurnRun) → TurnHistory f turnings → (s : Settings) (before₁ before₂ : Lent) → rooms_of before₁ ≡ rooms_of before₂
-    → {tally₁ tally₂ : Tally} {r₁ r₂ : FinishAnswer} {after₁ after₂ : Lent}
+    → {tally₁ tally₂ : Tally} {r₁ r₂ : Answer × Tally} {after₁ after₂ : Lent}
     → FinishResult (finish_given f s before₁ tally₁) r₁ after₁ → FinishResult (finish_given (standing f turnings) s before₂ tally₂) r₂ after₂
-    → Alike (accepted_turns turnings) f (number_of_finish r₁) (number_of_finish r₂) after₁.three after₂.three
+    → Alike (accepted_turns turnings) f (number_of r₁.0) (number_of r₂.0) after₁.three after₂.three
 demand_3_counted f turnings h s before₁ before₂ room p q =
     demand_3_numbered f turnings h s before₁ before₂ room
-    (record { number = p.result.answer.number; leaves = p.result.leaves }) (record { number = q.result.answer.number; leaves = q.result.leaves })
+    (to_number p.result refl) (to_number q.result refl)

@@ -6,7 +6,7 @@ use Rattle.questions.specs.Questions.{ask}
 use Rattle.tally.specs.Tally.{zero_tally, next_tally, tally_after, own_count}
 use Rattle.tally.specs.declared.Tally.{Tally}
 use Rattle.tally.proofs.Counting.{tally_of_list}
-use Rattle.finishing.specs.Calls.{untallied, tally_of_finish}
+use Rattle.finishing.specs.Calls.{untallied}
 use Rattle.finishing.specs.Histories.{FinishRun, FinishHistory, last_tally, counted_calls}
 
 -- the calls count one after the other
@@ -15,8 +15,8 @@ unfolding tally_after
 counted_on t [] h = refl
 counted_on t (run ∷ runs) h =
     let n = ask (untallied run.given).questions in
-    let e : tally_of_finish run.answer ≡ next_tally n (rounds_of run.given.settings) t = h.1.next ∙ ap (next_tally n (rounds_of run.given.settings)) h.0 in
-    counted_on (tally_of_finish run.answer) runs h.2 ∙ ap (λ (u : Tally). tally_after u (counted_calls runs)) e
+    let e : run.tally ≡ next_tally n (rounds_of run.given.settings) t = h.1.next ∙ ap (next_tally n (rounds_of run.given.settings)) h.0 in
+    counted_on run.tally runs h.2 ∙ ap (λ (u : Tally). tally_after u (counted_calls runs)) e
 
 -- The tally over every list of finishing calls from zero is the list's own count: accepted calls, refused calls, the rounds of the accepted
 -- ones, each cut at the largest count.

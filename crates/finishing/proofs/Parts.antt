@@ -14,9 +14,9 @@ use Rattle.planes.proofs.Planes.{length-listing, listing_agree, plane_of-listing
 use Rattle.questions.specs.Settings.{ceiling_of}
 use Rattle.questions.specs.Questions.{ask, all_at_most, shape_questions, settings_questions, frame_questions}
 use Rattle.questions.specs.Lent.{Lent, lent, rooms_of, wide_enough, buffer_questions}
-use Rattle.questions.specs.Calls.{Result}
+use Rattle.questions.specs.Refusals.{Answer}
+use Rattle.questions.specs.Calls.{Outcome}
 use Rattle.questions.specs.declared.Settings.{Settings}
-use Rattle.questions.specs.declared.Answer.{Answer}
 use Rattle.questions.proofs.Asking.{AllYes, all_yes, all_yes_split, all_yes_both, ask_zero}
 use Rattle.questions.proofs.Answering.{new_left}
 use Rattle.turns.proofs.Frames.{plane_bound, listing_bound}
@@ -185,31 +185,37 @@ finished_by_parts f s =
         ≡ listing w h (λ r c. part (rounds s w h f.layout (λ i j. (mosaic i j, updated top w h f.layout mosaic i j)) r c))
     colour part = listing_agree w h (λ r c hr hc. ap part ((rounds_commute s).agrees w h f.layout _ _ (λ i j hi hj. λ k. (mosaic i j, all i j hi hj k)) r c hr hc))
 
--- what is left after the three calls, each given what the one before it left
-pub parts_leave : (f : Frame) (s : Settings) (before : Lent) → 0 ≡ ask (finish_questions f s (rooms_of before))
-    → {a b c : Answer} {first : Planes (List ℕ)} {green : List ℕ} {work : List ℤ} {last : Lent}
-    → Result (estimate_call (ceiling_of s) f before.three) a first → Result (update_call (ceiling_of s) f first.green before.work) b (green, work)
-    → Result (rounds_call f s (lent first.red green first.blue work before.wide)) c last → last ≡ with_finished f s before
-parts_leave f s before e {b = b} {c = c} {first} {green} {work} {last} p q r =
-    new_left (rounds_call f s left) (subst (λ (x : Lent). Result (rounds_call f s x) c last) given r).leaves (sym (rounds_accepts f s before e))
-    ∙ (λ i. record { three = finished_by_parts f s i; work = zeroed_again f.width f.height before.work (work_room f s before e) i; wide = (with_finished f s before).wide })
-  where
-    top : ℕ
-    top = ceiling_of s
+-- the three calls, each given what the one before it left
+module _ (f : Frame) (s : Settings) (before : Lent) (e : 0 ≡ ask (finish_questions f s (rooms_of before))) where
+  -- what the rounds are given
+  abbrev left : Lent
+  left = record { three = updated_lists (ceiling_of s) f; work = zeroed f.width f.height before.work; wide = before.wide }
 
+  module _ {a : Answer} {first : Planes (List ℕ)} (p : Outcome (estimate_call (ceiling_of s) f before.three) a first) where
     -- the estimate leaves its lists
-    estimated : first ≡ estimate_lists top f
-    estimated = new_left (estimate_call top f before.three) p.leaves (sym (estimate_accepts f s before e))
+    estimated : first ≡ estimate_lists (ceiling_of s) f
+    estimated = new_left (estimate_call (ceiling_of s) f before.three) p.leaves (sym (estimate_accepts f s before e))
 
-    -- the update, given them, the updated green and zeros
-    updated : ◌≡◌ {A = List ℕ × List ℤ} (green, work) (update_list top f (estimate_lists top f).green, zeroed f.width f.height before.work)
-    updated =
-        new_left (update_call top f (estimate_lists top f).green before.work)
-        (subst (λ (x : Planes (List ℕ)). Result (update_call top f x.green before.work) b (green, work)) estimated q).leaves (sym (update_accepts f s before e))
+    -- so the update accepts
+    pub update_asked : 0 ≡ ask (update_questions (ceiling_of s) f first.green (length before.work))
+    update_asked = update_accepts f s before e ∙ ap (λ (x : Planes (List ℕ)). ask (update_questions (ceiling_of s) f x.green (length before.work))) (sym estimated)
 
-    -- and the rounds are given what it left
-    left : Lent
-    left = record { three = updated_lists top f; work = zeroed f.width f.height before.work; wide = before.wide }
+    module _ {b : Answer} {green : List ℕ} {work : List ℤ} (q : Outcome (update_call (ceiling_of s) f first.green before.work) b (green, work)) where
+      -- and leaves the updated green, and zeros
+      updated_after : ◌≡◌ {A = List ℕ × List ℤ} (green, work) (update_list (ceiling_of s) f (estimate_lists (ceiling_of s) f).green, zeroed f.width f.height before.work)
+      updated_after =
+          new_left (update_call (ceiling_of s) f (estimate_lists (ceiling_of s) f).green before.work)
+          (subst (λ (x : Planes (List ℕ)). Outcome (update_call (ceiling_of s) f x.green before.work) b (green, work)) estimated q).leaves (sym (update_accepts f s before e))
 
-    given : lent first.red green first.blue work before.wide ≡ left
-    given = unfold updated_lists in (λ i. lent (estimated i).red (updated i).0 (estimated i).blue (updated i).1 before.wide)
+      given_rounds : lent first.red green first.blue work before.wide ≡ left
+      given_rounds = unfold updated_lists in (λ i. lent (estimated i).red (updated_after i).0 (estimated i).blue (updated_after i).1 before.wide)
+
+      -- so they accept
+      pub rounds_asked : 0 ≡ ask (rounds_questions f s (lent first.red green first.blue work before.wide))
+      rounds_asked = rounds_accepts f s before e ∙ ap (λ (x : Lent). ask (rounds_questions f s x)) (sym given_rounds)
+
+      -- and this is left
+      pub parts_leave : {c : Answer} {last : Lent} → Outcome (rounds_call f s (lent first.red green first.blue work before.wide)) c last → last ≡ with_finished f s before
+      parts_leave {c} {last} r =
+          new_left (rounds_call f s left) (subst (λ (x : Lent). Outcome (rounds_call f s x) c last) given_rounds r).leaves (sym (rounds_accepts f s before e))
+          ∙ (λ i. record { three = finished_by_parts f s i; work = zeroed_again f.width f.height before.work (work_room f s before e) i; wide = (with_finished f s before).wide })

@@ -5,17 +5,14 @@ use Rattle.planes.specs.Layout.{two_levels}
 use Rattle.planes.specs.Planes.{Frame}
 use Rattle.questions.specs.Settings.{rounds_of}
 use Rattle.questions.specs.Questions.{Question, ask}
+use Rattle.questions.specs.Refusals.{Answer}
 use Rattle.questions.specs.Lent.{Lent, Rooms, rooms_of, lent_questions}
-use Rattle.questions.specs.Calls.{Call, Result, plain_call}
+use Rattle.questions.specs.Calls.{Call, Outcome, plain_call}
 use Rattle.questions.specs.declared.Settings.{Settings}
-use Rattle.questions.specs.declared.Answer.{Answer}
-use Rattle.questions.specs.declared.Answer.TheVariants as answer
 use Rattle.tally.specs.Tally.{next_tally}
 use Rattle.tally.specs.declared.Tally.{Tally}
 use Rattle.work_buffer.specs.Buffer.{zeroed, wide_zeroed}
 use Rattle.finishing.specs.Finishing.{finish_lists}
-use Rattle.finishing.specs.declared.FinishAnswer.{FinishAnswer}
-use Rattle.finishing.specs.declared.FinishAnswer.TheVariants as finish_answer
 
 -- ---- the questions, in document 01's order: 1 to 9, with 18 after 8, of a frame, its settings, and the room in planes and work buffers
 abbrev pub finish_questions : Frame → Settings → Rooms → List Question
@@ -31,7 +28,7 @@ with_finished f s before = record {
 }
 
 -- the finishing call, given frame f, settings s, and planes and work buffers that held `before`
-abbrev pub finish_call : Frame → Settings → Lent → Call Answer Lent
+abbrev pub finish_call : Frame → Settings → Lent → Call (Unit {0}) Lent
 finish_call f s before = plain_call (finish_questions f s (rooms_of before)) (with_finished f s before) before
 
 -- ---- with a tally
@@ -46,38 +43,14 @@ abbrev pub finish_given : Frame → Settings → Lent → Tally → FinishGiven
 finish_given f s before tally = record { frame = f; settings = s; before = before; tally = tally }
 
 -- the same call without it
-abbrev pub untallied : FinishGiven → Call Answer Lent
+abbrev pub untallied : FinishGiven → Call (Unit {0}) Lent
 untallied g = finish_call g.frame g.settings g.before
-
--- the number of its answer, and the tally that it hands back
-abbrev pub number_of_finish : FinishAnswer → ℕ
-number_of_finish (finish_answer.Accepted tally) = 0
-number_of_finish (finish_answer.Refused number tally) = number
-
-abbrev pub tally_of_finish : FinishAnswer → Tally
-tally_of_finish (finish_answer.Accepted tally) = tally
-tally_of_finish (finish_answer.Refused number tally) = tally
-
--- inner: the answer of a call without a tally, with the next tally in it
-abbrev pub with_tally : Answer → Tally → FinishAnswer
-with_tally answer.Accepted tally = finish_answer.Accepted tally
-with_tally (answer.Refused number) tally = finish_answer.Refused number tally
 
 -- the tally after the call
 abbrev pub next_of : FinishGiven → Tally
 next_of g = next_tally (ask (untallied g).questions) (rounds_of g.settings) g.tally
 
--- the finishing call with a tally
-abbrev pub tallied : FinishGiven → Call FinishAnswer Lent
-tallied g = record {
-  questions = (untallied g).questions;
-  number_of = number_of_finish;
-  answer = finish_answer.Accepted (next_of g);
-  new = (untallied g).new;
-  old = (untallied g).old;
-}
-
--- its answer r, which has the next tally in it, accepted or refused, and what planes and work buffers hold after
-pub record FinishResult (g : FinishGiven) (r : FinishAnswer) (after : Lent) : Type 0 where
-  pub result : Result (tallied g) r after
-  pub next : tally_of_finish r ≡ next_of g
+-- the finishing call with a tally: its answer r and the tally that it hands back, accepted or refused, and what planes and work buffers hold after
+pub record FinishResult (g : FinishGiven) (r : Answer × Tally) (after : Lent) : Type 0 where
+  pub result : Outcome (untallied g) r.0 after
+  pub next : r.1 ≡ next_of g

@@ -1,30 +1,31 @@
 -- Demand 3's list of turning calls, and planes turned by its accepted turns. Assumes nothing.
-use Rattle.std.specs.Prelude.{◌≡◌, List, [], ◌∷◌, ℕ}
+use Rattle.std.specs.Prelude.{◌≡◌, Result, Ok, Err, List, [], ◌∷◌, ℕ}
 use Rattle.planes.specs.Planes.{Frame, frame, Planes, planes}
-use Rattle.questions.specs.Calls.{Result}
+use Rattle.questions.specs.Settings.{framed}
+use Rattle.questions.specs.Calls.{Outcome}
+use Rattle.questions.specs.declared.Shape.{Shape}
+use Rattle.questions.specs.declared.Refusal.{Refusal}
 use Rattle.turns.specs.Frames.{turn_frame}
 use Rattle.turns.specs.Turning.{turn_call}
-use Rattle.turns.specs.declared.TurnedFrame.{TurnedFrame}
-use Rattle.turns.specs.declared.TurnedFrame.TheVariants as turned_frame
 
 -- a turning call beside the frame that it was given: its turn, what its second buffer held, what it answered, and what the buffer held
 -- after
 pub record TurnRun : Type 0 where
   pub turn : ℕ
   pub before : List ℕ
-  pub answer : TurnedFrame
+  pub answer : Result Shape Refusal
   pub after : List ℕ
 
 -- What stands after it, if f stood before: an accepted one leaves the turned width, height and layout and the second buffer's samples;
 -- a refused one leaves all four.
-abbrev pub frame_after : Frame → TurnedFrame → List ℕ → Frame
-frame_after f (turned_frame.Accepted width height layout) after = frame width height layout after
-frame_after f (turned_frame.Refused number) after = f
+abbrev pub frame_after : Frame → Result Shape Refusal → List ℕ → Frame
+frame_after f (Ok turned) after = framed turned after
+frame_after f (Err why) after = f
 
 -- a list of turning calls that ran, each given what the last accepted one before it left, or frame f while none was accepted
 abbrev pub TurnHistory : Frame → List TurnRun → Type 0
 TurnHistory f [] = Unit
-TurnHistory f (run ∷ runs) = Result (turn_call run.turn f run.before) run.answer run.after × TurnHistory (frame_after f run.answer run.after) runs
+TurnHistory f (run ∷ runs) = Outcome (turn_call run.turn f run.before) run.answer run.after × TurnHistory (frame_after f run.answer run.after) runs
 
 -- what stands after the list
 abbrev pub standing : Frame → List TurnRun → Frame
@@ -32,9 +33,9 @@ standing f [] = f
 standing f (run ∷ runs) = standing (frame_after f run.answer run.after) runs
 
 -- the list's accepted turns, in order
-abbrev pub if_turned : TurnedFrame → ℕ → List ℕ → List ℕ
-if_turned (turned_frame.Accepted width height layout) turn turns = turn ∷ turns
-if_turned (turned_frame.Refused number) turn turns = turns
+abbrev pub if_turned : Result Shape Refusal → ℕ → List ℕ → List ℕ
+if_turned (Ok turned) turn turns = turn ∷ turns
+if_turned (Err why) turn turns = turns
 
 abbrev pub accepted_turns : List TurnRun → List ℕ
 accepted_turns [] = []

@@ -1,15 +1,11 @@
 // The frames that the examples start from, and how long the buffers are that they are run with.
-ghost use Rattle.std.specs.Prelude.{◌≤◌};
+ghost use Rattle.std.specs.Prelude.{◌*◌, ◌≤◌};
 
-// The settings, one of the samples, and the lengths of both mosaics and of the buffers that each finishing is lent.
+use questions::{Settings, Shape};
+
+// The lengths of both mosaics, and of the buffers that each finishing is lent. None is longer than the arrays of an example: 12, and 97 of work.
 #[derive(Clone, Copy)]
-pub(crate) struct Example {
-    pub(crate) width: usize,
-    pub(crate) height: usize,
-    pub(crate) layout: u8,
-    pub(crate) rounds: u8,
-    pub(crate) threshold: u16,
-    pub(crate) sample: u16,
+pub(crate) struct Lengths {
     pub(crate) first: usize,
     pub(crate) second: usize,
     pub(crate) red: usize,
@@ -19,51 +15,55 @@ pub(crate) struct Example {
     pub(crate) wide: usize,
 }
 
+// A frame's shape and settings, one of its samples, and the lengths it is run with.
+#[derive(Clone, Copy)]
+pub(crate) struct Example {
+    pub(crate) shape: Shape,
+    pub(crate) settings: Settings,
+    pub(crate) sample: u16,
+    pub(crate) lengths: Lengths,
+}
+
 // The samples, of which a frame takes the first ones. One is given.
 pub(crate) fn samples(given: u16) -> [u16; 12] {
     [100, given, 0, 20, 3000, 7, 700, 1200, 64, 2500, 2048, 9]
 }
 
-// A frame, with buffers that suffice for so many samples.
-pub(crate) fn of(
-    width: usize,
-    height: usize,
-    count: usize,
-    layout: u8,
-    rounds: u8,
-    threshold: u16,
-) -> Example
-    requires { count ≤ 12 }
-{
-    Example {
-        width,
-        height,
-        layout,
-        rounds,
-        threshold,
-        sample: 4095,
-        first: count,
-        second: count,
-        red: count,
-        green: count,
-        blue: count,
-        work: 8 * count,
-        wide: 8 * count,
+impl Lengths {
+    // Buffers that suffice for so many samples.
+    fn of(samples: usize) -> Lengths
+        requires { samples ≤ 12 }
+    {
+        Lengths {
+            first: samples,
+            second: samples,
+            red: samples,
+            green: samples,
+            blue: samples,
+            work: 8 * samples,
+            wide: 8 * samples,
+        }
     }
 }
 
-pub(crate) fn two_by_two(layout: u8, rounds: u8, threshold: u16) -> Example {
-    of(2, 2, 4, layout, rounds, threshold)
+impl Example {
+    pub(crate) fn with(self, lengths: Lengths) -> Example {
+        Example { lengths, ..self }
+    }
 }
 
-pub(crate) fn three_by_two(layout: u8, rounds: u8, threshold: u16) -> Example {
-    of(3, 2, 6, layout, rounds, threshold)
-}
-
-pub(crate) fn three_by_three(layout: u8, rounds: u8, threshold: u16) -> Example {
-    of(3, 3, 9, layout, rounds, threshold)
-}
-
-pub(crate) fn four_by_three(layout: u8, rounds: u8, threshold: u16) -> Example {
-    of(4, 3, 12, layout, rounds, threshold)
+// A frame, with buffers that suffice.
+pub(crate) fn of(width: usize, height: usize, layout: u8, rounds: u8, threshold: u16) -> Example
+    requires { width * height ≤ 12 }
+{
+    Example {
+        shape: Shape {
+            width,
+            height,
+            layout,
+        },
+        settings: Settings { rounds, threshold },
+        sample: 4095,
+        lengths: Lengths::of(width * height),
+    }
 }

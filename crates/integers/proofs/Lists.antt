@@ -1,7 +1,7 @@
 -- The laws of tabulated and overwritten lists: lengths, what is read, one store more, one part after another; of the test whether two
 -- lists are the same; and of runs that are stored. Assumes nothing.
 use mathlib.Core.Path.{◌≡◌, refl, sym, ap, ◌∙◌, subst}
-use mathlib.Core.Bool.{Bool, true, false, ◌&&◌}
+use mathlib.Core.Bool.{true, ◌&&◌}
 use mathlib.Core.List.{List, [], ◌∷◌, ◌++◌, map, append_assoc, append-nil}
 use mathlib.Core.Logic.{⊎_elim}
 use Prim.Native.Nat.{ℕ, zero, suc, ◌+◌, ◌-◌, ◌≤◌, ◌<◌}
@@ -214,13 +214,6 @@ same_list_is (x ∷ xs) (y ∷ ys) e =
     let p = eqb→eq x y (and_left (eqb x y) (same_list xs ys) t) in
     let q = same_list_is xs ys (is_true (same_list xs ys) (and_right (eqb x y) (same_list xs ys) t)) in
     λ j. p j ∷ q j
-
-pub same_list_no : (l m : List ℕ) → (l ≡ m → ⊥) → same_list l m ≡ false
-same_list_no l m n = either (same_list l m) refl
-  where
-    either : (b : Bool) → same_list l m ≡ b → b ≡ false
-    either true e = absurd (n (same_list_is l m e))
-    either false e = refl
 
 -- ---- a run of elements stored after another
 pub sets-append : (l : List ℕ) (at : ℕ) (p q : List ℕ) → sets (sets l at p) (at + length p) q ≡ sets l at (p ++ q)

@@ -1,5 +1,5 @@
 // Inner: the bank's filters along lines. No loop over a line reflects, so that each is a loop over vectors: the border stands in
-// padded lines.
+// padded lines. A list comes with the place where a line begins in it, and is no part cut from it (docs/DECISIONS.md, "Lent lists").
 #![tactic(auto)]
 
 ghost use Rattle.std.specs.Prelude.{◌≡◌, ℕ, ◌+◌, ◌≤◌, ◌<◌, length, ◌+ℤ◌};
@@ -9,6 +9,7 @@ ghost use Rattle.filters.specs.Bank.{low_split, high_split, low_join, high_join,
 ghost use Rattle.lines.specs.Lines.{Run, Runs, three, five, joined, meant, padded};
 
 // Three lines of n, from a, b and c on, through both split filters: into `low` and `high`, from `at` on.
+// Lent lists go one by one (docs/DECISIONS.md, "Lent lists").
 pub fn split_line(
     source: &[i32],
     a: usize,
@@ -24,18 +25,16 @@ pub fn split_line(
     ensures low_after { low.new ≡ overwrite low.old at n (three low_split source.now a b c) }
     ensures high_after { high.new ≡ overwrite high.old at n (three high_split source.now a b c) }
 {
-    let mut i = 0;
-    while i < n {
+    for i in 0..n {
         let x = source[a + i];
         let y = source[b + i];
         let z = source[c + i];
         low[at + i] = filters::low_split(x, y, z);
         high[at + i] = filters::high_split(x, y, z);
-        i += 1;
     }
 }
 
-// Where five lines begin.
+// Where five lines begin. Where they stand d apart, all five are written out: the proofs compute with them.
 #[derive(Clone, Copy)]
 pub struct Five {
     pub a: usize,
@@ -51,8 +50,7 @@ pub fn join_low(source: &[i32], starts: Five, n: usize, out: &mut [i32], at: usi
     requires n_in_bounds { at + n ≤ length out.old }
     ensures { out.new ≡ overwrite out.old at n (five low_join source.now starts) }
 {
-    let mut i = 0;
-    while i < n {
+    for i in 0..n {
         out[at + i] = filters::low_join(
             source[starts.a + i],
             source[starts.b + i],
@@ -60,7 +58,6 @@ pub fn join_low(source: &[i32], starts: Five, n: usize, out: &mut [i32], at: usi
             source[starts.d + i],
             source[starts.e + i],
         );
-        i += 1;
     }
 }
 
@@ -70,8 +67,7 @@ fn add_high(source: &[i32], starts: Five, n: usize, out: &mut [i32], at: usize)
     requires run { Run 805306368 out.old at n }
     ensures { out.new ≡ overwrite out.old at n (λ k. value out.old (at + k) +ℤ five high_join source.now starts k) }
 {
-    let mut i = 0;
-    while i < n {
+    for i in 0..n {
         let high = filters::high_join(
             source[starts.a + i],
             source[starts.b + i],
@@ -79,8 +75,7 @@ fn add_high(source: &[i32], starts: Five, n: usize, out: &mut [i32], at: usize)
             source[starts.d + i],
             source[starts.e + i],
         );
-        out[at + i] = out[at + i] + high;
-        i += 1;
+        out[at + i] += high;
     }
 }
 
@@ -102,11 +97,9 @@ fn pad_side(line: &mut [i32], n: usize, pad: usize, from: usize)
     requires by_index { (i : ℕ) → i < n → (from ≤ pad + i) → from + pad ≤ pad + i }
     ensures { line.new ≡ overwrite line.old from pad (λ k. value line.old (meant n pad (from + k))) }
 {
-    let mut k = 0;
-    while k < pad {
+    for k in 0..pad {
         let place = pad + border::reflected_before(n, from + k, pad);
         line[from + k] = line[place];
-        k += 1;
     }
 }
 

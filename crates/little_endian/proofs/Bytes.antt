@@ -42,18 +42,6 @@ number_at-drop (suc n) l i j =
 pub number_at_cons : (n b : ℕ) (l : List ℕ) (j : ℕ) → number_at n (b ∷ l) (suc j) ≡ number_at n l j
 number_at_cons n b l j = ap (number_at n (b ∷ l)) (omega arith) ∙ number_at-drop n (b ∷ l) 1 j
 
--- four bytes as two and two
-pub number_of_four : (l : List ℕ) (i low high : ℕ) → low ≡ number_at 2 l i → high ≡ number_at 2 l (i + 2) → low + 65536 * high ≡ number_at 4 l i
-unfolding number_at
-number_of_four l i low high e f =
-    omega (arith, e, f ∙ (λ j. get_or l (second j) 0 + 256 * (get_or l (third j) 0 + 256 * 0)))
-  where
-    second : i + 2 ≡ i + 1 + 1
-    second = omega arith
-
-    third : i + 2 + 1 ≡ i + 1 + 1 + 1
-    third = omega arith
-
 -- ---- there and back
 pub number_of_bytes : (n x : ℕ) (l : List ℕ) → x < 256 ^ n → number_at n (bytes_of n x ++ l) 0 ≡ x
 unfolding number_at bytes_of

@@ -1,17 +1,23 @@
 -- The laws of samples in bytes: lengths, there and back, and the loops that read, write and compare them. Assumes nothing.
 use Prim.Native.Nat.{ℕ, zero, suc, ◌+◌, ◌*◌, ◌/◌, ◌%◌, ◌≤◌, ◌<◌}
 use mathlib.Core.Path.{◌≡◌, refl, sym, ap, ◌∙◌}
-use mathlib.Core.Bool.{true, false}
-use mathlib.Core.List.{List, [], ◌∷◌, ◌++◌}
+use mathlib.Core.Bool.{Bool}
+use mathlib.Core.List.{List, [], ◌∷◌}
 use native.Mathlib.Nat.{add-zero}
 use native.Mathlib.Numerals.{add-one}
 use native.Mathlib.Omega.{arith}
-use lib.ListN.{length, get_or, drop, drop_of_length-le}
-use lib.Seq.{drop-cons, sets}
+use lib.ListN.{length, get_or, take, drop, length-take, drop_of_length-le}
+use lib.Seq.{drop-cons, get_or-take, sets, sets-eq}
+use lib.Dec.{eqb}
+use lib.Pointwise.{pointwise}
+use borrow.Rule.Slice.PartMut.{put_mid}
+use Rattle.std.proofs.lemmas.Bool.Decides.{same_from_decides, Decides-like, Decides-eqb}
+use Rattle.std.proofs.lemmas.Slice.{put_mid-paste}
+use Rattle.std.proofs.lemmas.Slice.Eq.{slice_eq-Decides, compares_Decides}
 use Rattle.integers.specs.Lists.{tabulate, overwrite, same_list}
-use Rattle.integers.proofs.Lists.{length-tabulate, get_or-tabulate, tabulate_cons, tabulate_cong, overwrite_all, same_list_yes, same_list_no}
+use Rattle.integers.proofs.Lists.{length-tabulate, tabulate_cons, tabulate_cong, overwrite_all}
 use Rattle.little_endian.specs.Bytes.{bytes_of, number_at, sample_bytes, sample_at, samples_in}
-use Rattle.little_endian.proofs.Bytes.{Below, number_at_cons}
+use Rattle.little_endian.proofs.Bytes.{Below, below_take, number_at_cons}
 
 -- ---- lengths
 pub length-sample_bytes : (s : List ℕ) → length (sample_bytes s) ≡ 2 * length s
@@ -68,15 +74,18 @@ bytes_of_samples (x ∷ y ∷ l) (suc n) e b =
     high = omega (arith, b.at 0, b.at 1)
 
 -- ---- the loop that writes: the samples that are left
-pub write_step : (x s : List ℕ) (k : ℕ) {y : List ℕ} → k < length s → y ≡ sets x (2 * k) (bytes_of 2 (get_or s k 0))
-    → sets y (2 * (k + 1)) (sample_bytes (drop (k + 1) s)) ≡ sets x (2 * k) (sample_bytes (drop k s))
+pub write_step : (x s : List ℕ) (k m : ℕ) {y z : List ℕ} → k < length s → 2 * length s ≤ length x → m ≡ 2 → y ≡ z → z ≡ bytes_of 2 (get_or s k 0)
+    → sets (put_mid (2 * k) m x y) (2 * (k + 1)) (sample_bytes (drop (k + 1) s)) ≡ sets x (2 * k) (sample_bytes (drop k s))
 unfolding sample_bytes bytes_of
-write_step x s k h e =
-    (λ j. sets (e j) (next j) (sample_bytes (drop (add-one k j) s)))
+write_step x s k m {y} {z} h room two e f =
+    (λ j. sets (part j) (next j) (sample_bytes (drop (add-one k j) s)))
     ∙ ap (λ (l : List ℕ). sets x (2 * k) (sample_bytes l)) (sym (drop-cons s k 0 h))
   where
     next : 2 * (k + 1) ≡ suc (suc (2 * k))
     next = omega arith
+
+    part : put_mid (2 * k) m x y ≡ sets x (2 * k) (bytes_of 2 (get_or s k 0))
+    part = put_mid-paste (2 * k) m x y (bytes_of 2 (get_or s k 0)) 2 (e ∙ f) (sym two) refl ∙ sym (sets-eq (bytes_of 2 (get_or s k 0)) x (2 * k) (omega arith))
 
 pub write_end : (out s : List ℕ) (i k : ℕ) → length s ≤ k → out ≡ sets out i (sample_bytes (drop k s))
 unfolding sample_bytes
@@ -90,22 +99,30 @@ read_end bytes before k e p q = e ∙ overwrite_all before k (sample_at bytes) p
     half : k ≡ length bytes / 2
     half = omega arith
 
--- ---- the loop that compares: the first k agree
-pub same_none : (f g : ℕ → ℕ) → tabulate 0 f ≡ tabulate 0 g
-unfolding tabulate
-same_none f g = refl
-
-pub same_step : (f g : ℕ → ℕ) (k : ℕ) → tabulate k f ≡ tabulate k g → f k ≡ g k → tabulate (k + 1) f ≡ tabulate (k + 1) g
-unfolding tabulate
-same_step f g k e p = ap (λ (n : ℕ). tabulate n f) (add-one k) ∙ (λ j. e j ++ (p j ∷ [])) ∙ ap (λ (n : ℕ). tabulate n g) (sym (add-one k))
-
-pub same_no : (a b : List ℕ) (k : ℕ) → length a ≡ length b → k < length a / 2 → (sample_at a k ≡ sample_at b k → ⊥) → false ≡ same_list (samples_in a) (samples_in b)
-unfolding samples_in
-same_no a b k e h n = sym (same_list_no (samples_in a) (samples_in b) (λ q. n (sym (get_or-tabulate (length a / 2) (sample_at a) k 0 h) ∙ ap (λ (l : List ℕ). get_or l k 0) q ∙ get_or-tabulate (length b / 2) (sample_at b) k 0 (omega arith))))
-
-pub same_yes : (a b : List ℕ) (k : ℕ) → length a ≡ length b → k ≡ length a / 2 → tabulate k (sample_at a) ≡ tabulate k (sample_at b) → true ≡ same_list (samples_in a) (samples_in b)
-unfolding samples_in
-same_yes a b k e h p = sym (same_list_yes (samples_in a) (samples_in b) (ap (λ (n : ℕ). tabulate n (sample_at a)) (sym h) ∙ p ∙ ap (λ (n : ℕ). tabulate n (sample_at b)) half))
+-- ---- the bytes of whole samples are equal where the samples are
+whole : (l : List ℕ) (n : ℕ) → length l / 2 ≡ n → samples_in (take (n * 2) l) ≡ samples_in l
+unfolding samples_in number_at
+whole l n e =
+    ap (λ (m : ℕ). tabulate m (sample_at (take (n * 2) l))) count
+    ∙ tabulate_cong (length l / 2) (sample_at (take (n * 2) l)) (sample_at l) (λ k h. omega (arith, get_or-take (n * 2) l (2 * k) 0 (omega arith), get_or-take (n * 2) l (2 * k + 1) 0 (omega arith)))
   where
-    half : k ≡ length b / 2
-    half = omega arith
+    count : length (take (n * 2) l) / 2 ≡ length l / 2
+    count = omega (arith, length-take (n * 2) l)
+
+back : (l : List ℕ) (n : ℕ) → length l / 2 ≡ n → Below 256 l → sample_bytes (samples_in l) ≡ take (n * 2) l
+back l n e b = ap sample_bytes (sym (whole l n e)) ∙ bytes_of_samples (take (n * 2) l) n (omega (arith, length-take (n * 2) l)) (below_take 256 (n * 2) l (omega arith) b)
+
+pub same_bytes : (a b : List ℕ) {r : Bool} → length a ≡ length b → Below 256 a → Below 256 b
+    → r ≡ pointwise eqb (take (length a / 2 * 2) a) (take (length a / 2 * 2) b) → r ≡ same_list (samples_in a) (samples_in b)
+unfolding same_list
+same_bytes a b {r} e p q h =
+    same_from_decides r _ (Decides-like r to from (slice_eq-Decides Decides-eqb _ _ r h)) (compares_Decides same_list (record { empty = refl; shorter = λ y ys. refl; longer = λ x xs. refl; heads = λ x y xs ys. refl }) _ _)
+  where
+    n : ℕ
+    n = length a / 2
+
+    to : take (n * 2) a ≡ take (n * 2) b → samples_in a ≡ samples_in b
+    to s = sym (whole a n refl) ∙ ap samples_in s ∙ whole b n (omega arith)
+
+    from : samples_in a ≡ samples_in b → take (n * 2) a ≡ take (n * 2) b
+    from s = sym (back a n refl p) ∙ ap sample_bytes s ∙ back b n (omega arith) q

@@ -3,7 +3,7 @@
 use mathlib.Core.Path.{◌≡◌, refl, sym, ◌∙◌, ap, subst}
 use mathlib.Core.List.{List}
 use Prim.Native.Nat.{ℕ, ◌+◌, ◌≤◌, ◌<◌}
-use native.Mathlib.Nat.{le_trans, zero-add}
+use native.Mathlib.Nat.{zero-add}
 use native.Mathlib.Omega.{arith}
 use lib.IntN.{ℤ, nat_abs, ◌+ℤ◌, ◌-ℤ◌}
 use lib.ListN.{length}
@@ -12,13 +12,13 @@ use mir.Syntax.{w32}
 use mir.Val.{to_z, of_z}
 use Rattle.integers.specs.Lists.{overwrite}
 use Rattle.integers.proofs.Lists.{overwrite_cong}
-use Rattle.integers.proofs.Bounds.{read_is, read_bound}
+use Rattle.integers.proofs.Bounds.{read_is}
 use Rattle.planes.specs.Lists.{value}
 use Rattle.filters.specs.Bank.{Small, weighted, along, low_join, high_join}
 use Rattle.filters.proofs.Ranges.{gain, weighted_range}
 use Rattle.lines.specs.declared.Five.{Five}
 use Rattle.lines.specs.Lines.{Run, Runs, spaced, five, padded}
-use Rattle.lines.proofs.Lines.{read_small, read_value, five_small, five_read, five-along}
+use Rattle.lines.proofs.Lines.{read_value, five_small, five_read, five-along}
 use Rattle.details.specs.Details.{from_place, Crossing}
 use Rattle.nested_floor.specs.NestedFloor.{whole, rest}
 use Rattle.nested_floor.proofs.NestedFloor.{whole_small, rest_small}
@@ -31,12 +31,6 @@ read l k = to_z w32 (of_z w32 (value l k))
 -- a part of a run's value, as a call gives it back
 pub part_is : (f : ℤ → ℤ) {l : List ℤ} {o n : ℕ} → Run 805306368 l o n → (k : ℕ) → k < n → {v : ℤ} → mag v < 2147483648 → v ≡ f (read l (o + k)) → to_z w32 (of_z w32 v) ≡ f (value l (o + k))
 part_is f r k i ok e = read_is w32 ok (e ∙ ap f (read_value (omega arith) r k i))
-
-pub whole_read : {l : List ℤ} {o n : ℕ} → Run 805306368 l o n → (k : ℕ) → k < n → {v : ℤ} → v ≡ whole (read l (o + k)) → Small (to_z w32 (of_z w32 v))
-whole_read {l} {o} r k i e = read_bound w32 e (le_trans (whole_small 786432 (read l (o + k)) (read_small 805306368 (omega arith) r k i)) (omega arith))
-
-pub rest_read : (l : List ℤ) (k : ℕ) {v : ℤ} → v ≡ rest (read l k) → Small (to_z w32 (of_z w32 v))
-rest_read l k e = read_bound w32 e (le_trans (rest_small (read l k)) (omega arith))
 
 -- ---- how large a crossing of parts is
 pub whole-crossed_range : {x y : List ℤ} {v : Five} {n : ℕ} → Crossing 805306368 x y v n → (k : ℕ) → k < n → nat_abs (crossed_of whole x y v k) ≤ 9437184

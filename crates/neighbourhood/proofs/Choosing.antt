@@ -5,10 +5,9 @@ use mathlib.Core.List.{[], ◌∷◌}
 use Prim.Native.Nat.{◌≤◌, ◌<◌}
 use native.Mathlib.Omega.{arith}
 use lib.Dec.{T, ltb, ltb→lt}
-use lib.IntN.{ℤ, pos, nat_abs, ◌+ℤ◌, ◌-ℤ◌, ◌*ℤ◌}
+use lib.IntN.{ℤ, pos, negsuc, nat_abs, ◌+ℤ◌, ◌-ℤ◌, ◌*ℤ◌}
 use lib.Signed.{lt_z}
-use Rattle.integers.proofs.Tests.{cond_cases}
-use Rattle.integers.proofs.Bounds.{bounds}
+use Rattle.integers.proofs.Bounds.{bounds, abs_sub}
 use Rattle.integers.proofs.Linear.{linear, atom, x₀, x₁, x₂, x₃, ◌⊕◌, ◌⊖◌, ◌⊛◌}
 use Rattle.neighbourhood.specs.Place.{greens, two_away, gradient, along_line, along_both, eight_greens}
 use Rattle.neighbourhood.specs.Inner.{half_along, SmallResult, most_detail, most_along, most_greens}
@@ -22,17 +21,9 @@ pub line_small : (line : ℤ → ℤ) → nat_abs (greens line) ≤ 131070 → n
 unfolding half_along
 line_small line p q = within (pos 2 *ℤ greens line +ℤ (pos 2 *ℤ line (pos 0) -ℤ two_away line)) (search bounds depth 14) tt
 
--- ---- by a test, as code makes it
-module _ {h v a b : ℤ} (p : a ≡ h) (q : b ≡ v) (x y : ℤ) where
-  pub chosen_first : lt_z a b ≡ true → x ≡ cond (lt_z h v) x y
-  chosen_first t = sym (ap (λ c. cond c x y) (sym (λ i. lt_z (p i) (q i)) ∙ t))
-
-  pub chosen_second : lt_z a b ≡ false → y ≡ cond (lt_z h v) x y
-  chosen_second t = sym (ap (λ c. cond c x y) (sym (λ i. lt_z (p i) (q i)) ∙ t))
-
--- what holds of both holds of the one that is chosen
-pub chosen_small : (h v x y : ℤ) → nat_abs x ≤ most_along → nat_abs y ≤ most_along → nat_abs (cond (lt_z h v) x y) ≤ most_along
-chosen_small h v x y p q = cond_cases (lt_z h v) x y (λ z. nat_abs z ≤ most_along) (λ t. p) (λ t. q)
+pub gradient_small : (line : ℤ → ℤ) → nat_abs (line (negsuc 0)) ≤ 65535 → nat_abs (line (pos 1)) ≤ 65535 → nat_abs (pos 2 *ℤ line (pos 0) -ℤ two_away line) ≤ most_detail → gradient line ≤ most_along
+unfolding gradient
+gradient_small line p q r = omega (arith, abs_sub (line (negsuc 0)) (line (pos 1)))
 
 -- ---- the sum of two that are chosen
 module _ (row column : ℤ → ℤ) (e : row (pos 0) ≡ column (pos 0)) where

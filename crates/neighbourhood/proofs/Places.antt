@@ -1,5 +1,5 @@
 -- What code reads from a neighbourhood, and by the parities of a place. Assumes nothing.
-use mathlib.Core.Path.{◌≡◌, refl, sym, ◌∙◌}
+use mathlib.Core.Path.{◌≡◌, refl, sym}
 use mathlib.Core.Bool.{Bool, true, false, cond, beq}
 use mathlib.Core.List.{List, []}
 use Prim.Native.Nat.{ℕ}
@@ -21,10 +21,6 @@ unfolding eight_greens gradient along_line along_both greens two_away line_of ar
 lines_of n = refl
 
 -- ---- picked by the parities
--- one of two results
-pub picked_by : (first : Bool) {r a b x y : ℕ} → r ≡ cond first a b → a ≡ x → b ≡ y → r ≡ cond first x y
-picked_by first e p q = e ∙ (λ i. cond first (p i) (q i))
-
 module _ (n : Around ℕ) where
   -- green, by whether the row and the column both have red's parity or both have not
   pub green_picked : (top : ℕ) (a b : Bool) → cond (beq a b) (hamilton_adams top n) (n (pos 0) (pos 0)) ≡ green_at top (by_parity a b) n

@@ -11,8 +11,16 @@ ghost use Rattle.planes.specs.Planes.{plane_of};
 ghost use Rattle.neighbourhood.specs.Inner.{Mosaic, inner, line_of, half_along, SmallResult, most_detail, most_along, most_greens};
 ghost use Rattle.neighbourhood.specs.Place.{neighbourhood as neighbourhood_of, around, greens as greens_of, two_away as two_away_of, gradient as gradient_of, eight_greens as eight_of, hamilton_adams, green_at as green_by, of_two as two_rounded, of_four as four_rounded, bilinear};
 
+use questions::Shape;
+
+// Five samples along a row or a column, and five rows of five. The five are written out where they are made: with `array::from_fn` the proof did not close,
+// since what it says of one call leaves open what the closure holds then.
+pub type Line = [u16; 5];
+
+pub type Square = [Line; 5];
+
 // Five samples of a row, from `from` on.
-fn row_inside(mosaic: &[u16], from: usize) -> [u16; 5]
+fn row_inside(mosaic: &[u16], from: usize) -> Line
     requires { from + 5 ≤ length mosaic.now }
     ensures { result ≡ tabulate 5 (λ j. get_or mosaic.now (from + j) 0) }
 {
@@ -25,60 +33,79 @@ fn row_inside(mosaic: &[u16], from: usize) -> [u16; 5]
     ]
 }
 
-// The neighbourhood of a place that is two places or more from the border: five runs of five samples, one row apart.
-pub fn inside(mosaic: &[u16], width: usize, height: usize, r: usize, c: usize) -> [[u16; 5]; 5]
-    requires mosaic { Mosaic mosaic.now width height }
-    requires r_value { (inner height r ≡ true) × (inner width c ≡ true) }
-    ensures { result ≡ neighbourhood_of width height (plane_of 0 width mosaic.now) r c }
-{
-    let from = (r - 2) * width + (c - 2);
-    [
-        row_inside(mosaic, from),
-        row_inside(mosaic, from + width),
-        row_inside(mosaic, from + 2 * width),
-        row_inside(mosaic, from + 3 * width),
-        row_inside(mosaic, from + 4 * width),
-    ]
+// A frame's samples and its shape, which they fit.
+#[derive(Clone, Copy)]
+pub struct Frame<'a> {
+    pub samples: &'a [u16],
+    pub shape: Shape,
+    pub ghost mosaic: { Mosaic samples.now shape.width shape.height },
 }
 
-// The sample two columns before column c, reflected, of a row that starts at `at`.
-fn sample_before(mosaic: &[u16], width: usize, at: usize, c: usize) -> u16
-    requires { (1 ≤ width) × (width ≤ 2048) × (at + width ≤ length mosaic.now) }
-    ensures { result ≡ get_or mosaic.now (at + reflect width (pos c -ℤ pos 2)) 0 }
-{
-    let place = border::reflected_before(width, c, 2);
-    mosaic[at + place]
-}
+impl<'a> Frame<'a> {
+    // The neighbourhood of a place that is two places or more from the border: five runs of five samples, one row apart.
+    #[tactic(auto, using(crate::proofs::Neighbours::inside_room, crate::proofs::Neighbours::inner_is))]
+    pub fn inside(&self, r: usize, c: usize) -> Square
+        requires { (inner self.now.shape.height r ≡ true) × (inner self.now.shape.width c ≡ true) }
+        ensures { result ≡ neighbourhood_of self.now.shape.width self.now.shape.height (plane_of 0 self.now.shape.width self.now.samples.now) r c }
+    {
+        let from = (r - 2) * self.shape.width + (c - 2);
+        [
+            row_inside(self.samples, from),
+            row_inside(self.samples, from + self.shape.width),
+            row_inside(self.samples, from + 2 * self.shape.width),
+            row_inside(self.samples, from + 3 * self.shape.width),
+            row_inside(self.samples, from + 4 * self.shape.width),
+        ]
+    }
 
-// Five samples about column c, reflected, of the row two rows before row r, reflected.
-fn row_before(mosaic: &[u16], width: usize, height: usize, r: usize, c: usize) -> [u16; 5]
-    requires mosaic { Mosaic mosaic.now width height }
-    requires c_bound { c < 4096 }
-    ensures { result ≡ tabulate 5 (λ j. plane_of 0 width mosaic.now (reflect height (pos r -ℤ pos 2)) (reflect width (pos (c + j) -ℤ pos 2))) }
-{
-    let at = border::reflected_before(height, r, 2) * width;
-    [
-        sample_before(mosaic, width, at, c),
-        sample_before(mosaic, width, at, c + 1),
-        sample_before(mosaic, width, at, c + 2),
-        sample_before(mosaic, width, at, c + 3),
-        sample_before(mosaic, width, at, c + 4),
-    ]
-}
+    // The sample two columns before column c, reflected, of the row that starts at `at`.
+    fn sample_before(&self, at: usize, c: usize) -> u16
+        requires { at + self.now.shape.width ≤ length self.now.samples.now }
+        ensures { result ≡ get_or self.now.samples.now (at + reflect self.now.shape.width (pos c -ℤ pos 2)) 0 }
+    {
+        let place = border::reflected_before(self.shape.width, c, 2);
+        self.samples[at + place]
+    }
 
-// The neighbourhood of any place, each index reflected.
-fn reflected(mosaic: &[u16], width: usize, height: usize, r: usize, c: usize) -> [[u16; 5]; 5]
-    requires mosaic { Mosaic mosaic.now width height }
-    requires r_lt_height { (r < height) × (c < width) }
-    ensures { result ≡ neighbourhood_of width height (plane_of 0 width mosaic.now) r c }
-{
-    [
-        row_before(mosaic, width, height, r, c),
-        row_before(mosaic, width, height, r + 1, c),
-        row_before(mosaic, width, height, r + 2, c),
-        row_before(mosaic, width, height, r + 3, c),
-        row_before(mosaic, width, height, r + 4, c),
-    ]
+    // Five samples about column c, reflected, of the row two rows before row r, reflected.
+    fn row_before(&self, r: usize, c: usize) -> Line
+        requires { c < 4096 }
+        ensures { result ≡ tabulate 5 (λ j. plane_of 0 self.now.shape.width self.now.samples.now (reflect self.now.shape.height (pos r -ℤ pos 2)) (reflect self.now.shape.width (pos (c + j) -ℤ pos 2))) }
+    {
+        let at = border::reflected_before(self.shape.height, r, 2) * self.shape.width;
+        [
+            self.sample_before(at, c),
+            self.sample_before(at, c + 1),
+            self.sample_before(at, c + 2),
+            self.sample_before(at, c + 3),
+            self.sample_before(at, c + 4),
+        ]
+    }
+
+    // The neighbourhood of any place, each index reflected.
+    fn reflected(&self, r: usize, c: usize) -> Square
+        requires { (r < self.now.shape.height) × (c < self.now.shape.width) }
+        ensures { result ≡ neighbourhood_of self.now.shape.width self.now.shape.height (plane_of 0 self.now.shape.width self.now.samples.now) r c }
+    {
+        [
+            self.row_before(r, c),
+            self.row_before(r + 1, c),
+            self.row_before(r + 2, c),
+            self.row_before(r + 3, c),
+            self.row_before(r + 4, c),
+        ]
+    }
+
+    // The 5 by 5 neighbourhood of a place, reflected. Most places lie inside, where nothing is to reflect.
+    pub fn neighbourhood(&self, r: usize, c: usize) -> Square
+        requires { (r < self.now.shape.height) × (c < self.now.shape.width) }
+        ensures { result ≡ neighbourhood_of self.now.shape.width self.now.shape.height (plane_of 0 self.now.shape.width self.now.samples.now) r c }
+    {
+        if is_inner(self.shape.height, r) && is_inner(self.shape.width, c) {
+            return self.inside(r, c);
+        }
+        self.reflected(r, c)
+    }
 }
 
 // Whether place i of a line of n is two places or more from its ends.
@@ -92,79 +119,39 @@ pub fn is_inner(n: usize, i: usize) -> bool
     i + 2 < n
 }
 
-// The 5 by 5 neighbourhood of a place, reflected. Most places lie inside, where nothing is to reflect.
-pub fn neighbourhood(
-    mosaic: &[u16],
-    width: usize,
-    height: usize,
-    r: usize,
-    c: usize,
-) -> [[u16; 5]; 5]
-    requires mosaic { Mosaic mosaic.now width height }
-    requires r_lt_height { (r < height) × (c < width) }
-    ensures { result ≡ neighbourhood_of width height (plane_of 0 width mosaic.now) r c }
-{
-    if is_inner(height, r) && is_inner(width, c) {
-        return inside(mosaic, width, height, r, c);
-    }
-    reflected(mosaic, width, height, r, c)
-}
-
-// A sample as a number that sums of samples fit in.
-fn wide(sample: u16) -> u32
-    ensures { (result ≡ sample) × (sample < 65536) }
-{
-    sample as u32
-}
-
-// The same for differences.
-fn signed(sample: u16) -> i32
-    ensures { SmallResult 65535 result (pos sample) }
-{
-    sample as i32
-}
-
 // The two green neighbours in a row, or in a column.
-fn greens(line: [u16; 5]) -> i32
+fn greens(line: Line) -> i32
     ensures { SmallResult 131070 result (greens_of (line_of line)) }
 {
-    signed(line[1]) + signed(line[3])
+    let [_, before, _, after, _] = line;
+    i32::from(before) + i32::from(after)
 }
 
 // The two values two away.
-fn two_away(line: [u16; 5]) -> i32
+fn two_away(line: Line) -> i32
     ensures { SmallResult 131070 result (two_away_of (line_of line)) }
 {
-    signed(line[0]) + signed(line[4])
+    let [first, _, _, _, last] = line;
+    i32::from(first) + i32::from(last)
 }
 
 // 2C − the two values two away, C being the place's own value.
-fn detail(line: [u16; 5]) -> i32
+fn detail(line: Line) -> i32
     ensures { SmallResult most_detail result (pos 2 *ℤ line_of line (pos 0) -ℤ two_away_of (line_of line)) }
 {
-    2 * signed(line[2]) - two_away(line)
-}
-
-// |x|
-fn size(x: i32) -> i32
-    requires { nat_abs x ≤ most_detail }
-    ensures { SmallResult most_detail result (pos (nat_abs x)) }
-{
-    if x < 0 {
-        return 0 - x;
-    }
-    x
+    2 * i32::from(line[2]) - two_away(line)
 }
 
 // H of a row, or V of a column, of five samples about a place.
-fn gradient(line: [u16; 5]) -> i32
+fn gradient(line: Line) -> i32
     ensures { SmallResult most_along result (pos (gradient_of (line_of line))) }
 {
-    size(signed(line[1]) - signed(line[3])) + size(detail(line))
+    let [_, before, _, after, _] = line;
+    (i32::from(before) - i32::from(after)).abs() + detail(line).abs()
 }
 
 // Four times the green by a row, or by a column.
-fn along_line(line: [u16; 5]) -> i32
+fn along_line(line: Line) -> i32
     ensures { SmallResult most_along result (half_along (line_of line)) }
 {
     2 * greens(line) + detail(line)
@@ -183,7 +170,7 @@ fn chosen(h: i32, v: i32, first: i32, second: i32) -> i32
 }
 
 // Eight times the green, by the smaller of H and V twice, or once by each if they are equal.
-fn eight_greens(row: [u16; 5], column: [u16; 5]) -> i32
+fn eight_greens(row: Line, column: Line) -> i32
     requires { line_of row (pos 0) ≡ line_of column (pos 0) }
     ensures { SmallResult most_greens result (eight_of (line_of row) (line_of column)) }
 {
@@ -194,37 +181,32 @@ fn eight_greens(row: [u16; 5], column: [u16; 5]) -> i32
     chosen(h, v, across, down) + chosen(v, h, down, across)
 }
 
-// The eighth of a sum, rounded and clipped to 0..top. Below 0 nothing is divided: the machine's quotient goes toward 0 there.
+// The eighth of a sum, rounded and clipped to 0..top. What is below 0 is raised before: the machine's quotient goes toward 0 there.
 fn clipped_eighth(top: u16, sum: i32) -> u16
     requires { nat_abs sum ≤ most_greens }
     ensures { result ≡ clipped top (rounded 8 sum) }
 {
-    let raised = sum + 4;
-    if raised < 0 {
-        return 0;
-    }
-    let quotient = raised as u32 / 8;
-    if wide(top) < quotient {
-        return top;
-    }
-    quotient as u16
+    // `as` here and in the averages: it fits, as is proved, and `u16::try_from` would test it again at each place of a loop over vectors
+    let raised = (sum + 4).max(0) as u32;
+    (raised / 8).min(u32::from(top)) as u16
 }
 
 // The column through the place.
-fn middle_column(n: [[u16; 5]; 5]) -> [u16; 5]
+#[tactic(auto, unfolding(integers::specs::Lists::tabulate))]
+fn middle_column(n: Square) -> Line
     ensures { result ≡ tabulate 5 (λ i. get_or (get_or n i []) 2 0) }
 {
     [n[0][2], n[1][2], n[2][2], n[3][2], n[4][2]]
 }
 
 // Green at a red or blue place, from the neighbourhood: Hamilton and Adams.
-fn green_estimate(top: u16, n: [[u16; 5]; 5]) -> u16
+fn green_estimate(top: u16, n: Square) -> u16
     ensures { result ≡ hamilton_adams top (around n) }
 {
     clipped_eighth(top, eight_greens(n[2], middle_column(n)))
 }
 
-// The first of two values that are there already, or the second: a choice without a branch.
+// The first of two values that are there already, or the second: a choice without a branch, as `chosen` is, which has a bound to promise besides.
 fn picked(first: bool, a: u16, b: u16) -> u16
     ensures { result ≡ cond «first» a b }
 {
@@ -232,7 +214,7 @@ fn picked(first: bool, a: u16, b: u16) -> u16
 }
 
 // Green at any place: estimated where it was not observed.
-pub fn green_at(top: u16, n: [[u16; 5]; 5], on_row: bool, on_column: bool) -> u16
+pub fn green_at(top: u16, n: Square, on_row: bool, on_column: bool) -> u16
     ensures { result ≡ green_by top (by_parity on_row on_column) (around n) }
 {
     let estimated = on_row == on_column;
@@ -243,18 +225,18 @@ pub fn green_at(top: u16, n: [[u16; 5]; 5], on_row: bool, on_column: bool) -> u1
 fn of_two(a: u16, b: u16) -> u16
     ensures { result ≡ two_rounded a b }
 {
-    ((wide(a) + wide(b) + 1) / 2) as u16
+    ((u32::from(a) + u32::from(b) + 1) / 2) as u16
 }
 
 // The quarter of four samples' sum, rounded.
 fn of_four(a: u16, b: u16, c: u16, d: u16) -> u16
     ensures { result ≡ four_rounded a b c d }
 {
-    ((wide(a) + wide(b) + wide(c) + wide(d) + 2) / 4) as u16
+    ((u32::from(a) + u32::from(b) + u32::from(c) + u32::from(d) + 2) / 4) as u16
 }
 
 // Red or blue in a row of the colour's places: observed, or from the two beside it.
-fn on_its_row(row: [u16; 5], on_column: bool) -> u16
+fn on_its_row(row: Line, on_column: bool) -> u16
     ensures { result ≡ cond on_column (get_or row 2 0) (two_rounded (get_or row 1 0) (get_or row 3 0)) }
 {
     let between = of_two(row[1], row[3]);
@@ -262,7 +244,7 @@ fn on_its_row(row: [u16; 5], on_column: bool) -> u16
 }
 
 // Red or blue between two rows of the colour's places: from the two above and below it, or from the four diagonals.
-fn between_rows(above: [u16; 5], below: [u16; 5], on_column: bool) -> u16
+fn between_rows(above: Line, below: Line, on_column: bool) -> u16
     ensures { result ≡ cond on_column (two_rounded (get_or above 2 0) (get_or below 2 0)) (four_rounded (get_or above 1 0) (get_or above 3 0) (get_or below 1 0) (get_or below 3 0)) }
 {
     let between = of_two(above[2], below[2]);
@@ -271,7 +253,7 @@ fn between_rows(above: [u16; 5], below: [u16; 5], on_column: bool) -> u16
 }
 
 // Red or blue, by whether the place's row, and its column, have the parity of the colour's places.
-pub fn bilinear_estimate(n: [[u16; 5]; 5], on_row: bool, on_column: bool) -> u16
+pub fn bilinear_estimate(n: Square, on_row: bool, on_column: bool) -> u16
     ensures { result ≡ bilinear on_row on_column (around n) }
 {
     if on_row {

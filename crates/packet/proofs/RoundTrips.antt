@@ -3,7 +3,7 @@
 -- Assumes nothing.
 use Prim.Native.Nat.{ℕ, ◌+◌, ◌*◌, ◌-◌, ◌^◌, ◌≤◌, ◌<◌}
 use mathlib.Core.Path.{◌≡◌, refl, sym, ap, ◌∙◌, subst}
-use mathlib.Core.Bool.{Bool, true, cond}
+use mathlib.Core.Bool.{Bool, true}
 use mathlib.Core.List.{List, [], ◌∷◌, ◌++◌, append_assoc, append-nil}
 use native.Mathlib.Nat.{add-zero}
 use native.Mathlib.Omega.{arith}
@@ -16,23 +16,19 @@ use Rattle.integers.proofs.Lists.{same_list_yes, same_list_is}
 use Rattle.integers.proofs.Tests.{is_true, true_is, same_test}
 use Rattle.questions.specs.Settings.{ceiling_of}
 use Rattle.questions.specs.Questions.{Question, ask, all_at_most}
-use Rattle.questions.specs.Calls.{Result}
+use Rattle.std.proofs.Common.{Result, Ok, Err}
+use Rattle.questions.specs.Refusals.{number_of}
+use Rattle.questions.specs.declared.Refusal.{Refusal}
+use Rattle.questions.specs.Calls.{Outcome}
 use Rattle.questions.proofs.Asking.{AllYes, all_yes_both, ask_zero, all_at_most_at, ceiling_fits}
 use Rattle.questions.proofs.Answering.{left_yes, new_left}
 use Rattle.little_endian.specs.Bytes.{bytes_of, number_at, sample_bytes, samples_in}
 use Rattle.little_endian.proofs.Bytes.{Below, below_by, below_take, below_drop, number_at-drop, number_of_bytes, bytes_of_number}
 use Rattle.little_endian.proofs.Samples.{length-sample_bytes, length-samples_in, samples_of_bytes, bytes_of_samples}
 use Rattle.packet.specs.Packet.{distance, trailer, packet, trailer_place, fields_of, distance_in, first_place, sample_part, samples_of, packet_in, repeats}
-use Rattle.packet.specs.Calls.{fields_questions, distance_questions, store_questions, ceiling_question, read_questions, filling_questions, mosaic_questions, writing_questions, write_questions, ReadResult, number_of_repeat, part_read, mosaic_call, write_call, RepeatResult}
+use Rattle.packet.specs.Calls.{fields_questions, distance_questions, store_questions, ceiling_question, read_questions, filling_questions, mosaic_questions, writing_questions, write_questions, ReadResult, part_read, mosaic_call, write_call, RepeatResult}
 use Rattle.packet.specs.RoundTrips.{ReadsBack, WasRead, into_mosaic, as_part}
 use Rattle.packet.specs.declared.Fields.{Fields}
-use Rattle.packet.specs.declared.ReadPacket.{ReadPacket}
-use Rattle.packet.specs.declared.ReadPacket.TheVariants.{Sound, Refused}
-use Rattle.packet.specs.declared.Repeat.{Repeat}
-use Rattle.packet.specs.declared.Repeat.TheVariants.{Yes, No}
-use Rattle.packet.specs.declared.WrittenPacket.{WrittenPacket}
-use Rattle.packet.specs.declared.WrittenPacket.TheVariants as written
-use Rattle.packet.specs.declared.WrittenPacket.TheVariants.{Bytes}
 use Rattle.packet.proofs.Stores.{SoundPacket, sound_by, sound, filling, length_part}
 use Rattle.packet.proofs.Repeating.{repeats_agree, agree_repeats, sound_both}
 use Rattle.packet.proofs.Writing.{Writable, writable, length-packet}
@@ -73,15 +69,17 @@ module _ (older : List ℕ) (f : Fields) (s : List ℕ) (room : ℕ) (k : Writab
   fields_back : fields_of Store ≡ f
   unfolding fields_of trailer bytes_of
   fields_back =
-      let width : f.width < 65536 = omega (arith, k.fields.shape.sizes.width_to) in
-      let height : f.height < 65536 = omega (arith, k.fields.shape.sizes.height_to) in
-      let layout : f.layout < 256 = omega (arith, k.fields.shape.layout_to) in
+      let width : f.shape.width < 65536 = omega (arith, k.fields.shape.sizes.width_to) in
+      let height : f.shape.height < 65536 = omega (arith, k.fields.shape.sizes.height_to) in
+      let layout : f.shape.layout < 256 = omega (arith, k.fields.shape.layout_to) in
       let rounds : f.settings.rounds < 256 = omega (arith, k.fields.rounds) in
       let threshold : f.settings.threshold < 65536 = omega (arith, k.fields.threshold, ceiling_fits f.settings) in
       λ j. record {
-        width = (ap (number_at 2 Store) (sym (add-zero (trailer_place Store))) ∙ read_back 2 0 f.width _ refl width) j;
-        height = read_back 2 2 f.height _ refl height j;
-        layout = read_back 1 4 f.layout _ refl layout j;
+        shape = record {
+          width = (ap (number_at 2 Store) (sym (add-zero (trailer_place Store))) ∙ read_back 2 0 f.shape.width _ refl width) j;
+          height = read_back 2 2 f.shape.height _ refl height j;
+          layout = read_back 1 4 f.shape.layout _ refl layout j;
+        };
         settings = record {
           rounds = read_back 1 5 f.settings.rounds _ refl rounds j;
           threshold = read_back 2 6 f.settings.threshold _ refl threshold j;
@@ -130,7 +128,7 @@ record Reads (store : List ℕ) (f : Fields) (s : List ℕ) : Type 0 where
 
 written_reads_back : (older : List ℕ) (f : Fields) (s : List ℕ) (room : ℕ) → ask (write_questions f s room) ≡ 0 → Reads (older ++ packet f s) f s
 written_reads_back older f s room z =
-    let k = writable f s room 0 (sym z) refl in
+    let k = writable f s room (sym z) in
     record {
       sound = sound_back older f s room k;
       fields = fields_back older f s room k;
@@ -164,7 +162,7 @@ module _ (s : List ℕ) (k : SoundPacket s) (b : Below 256 s) where
   part_bytes = below_take 256 (trailer_place s - first_place s) (drop (first_place s) s) (omega arith) (below_drop 256 (first_place s) s b)
 
   samples_again : sample_bytes (samples_of s) ≡ sample_part s
-  samples_again = bytes_of_samples (sample_part s) ((fields_of s).width * (fields_of s).height) (length_part s k.at) part_bytes
+  samples_again = bytes_of_samples (sample_part s) ((fields_of s).shape.width * (fields_of s).shape.height) (length_part s k.at) part_bytes
 
   -- the bytes from the first sample on
   packet_again : packet (fields_of s) (samples_of s) ≡ packet_in s
@@ -184,7 +182,7 @@ module _ (s : List ℕ) (k : SoundPacket s) (b : Below 256 s) where
       let f = fields_of s in
       ask_zero (write_questions f (samples_of s) room)
       (all_yes_both (fields_questions f) (writing_questions f (samples_of s) room) k.at.fields.answers
-      (eq-eqb (length (samples_of s)) (f.width * f.height) (length-samples_in (sample_part s) (f.width * f.height) (length_part s k.at)), (k.small, (le-leb (distance f) room h, tt))))
+      (eq-eqb (length (samples_of s)) (f.shape.width * f.shape.height) (length-samples_in (sample_part s) (f.shape.width * f.shape.height) (length_part s k.at)), (k.small, (le-leb (distance f) room h, tt))))
 
   -- by itself it is read as it was behind its older bytes
   reads_alone : Reads (packet_in s) (fields_of s) (samples_of s)
@@ -212,20 +210,20 @@ repeats_bytes a b p q k l = same_test (repeats a b) (same_list (packet_in a) (pa
 -- ---- the calls, one after another
 -- what the three reading calls answer of a store that is read as a frame
 module _ (store : List ℕ) (f : Fields) (s : List ℕ) (h : Reads store f s) where
-  fields_read : (r : ReadPacket) → ReadResult store r → r ≡ Sound f
-  fields_read r result = result.accepted h.sound.asked ∙ ap (λ (g : Fields). Sound g) h.fields
+  fields_read : (r : Result Fields Refusal) → ReadResult store r → r ≡ Ok f
+  fields_read r result = result.accepted h.sound.asked ∙ ap (λ (g : Fields). Ok g) h.fields
 
   samples_read : (p : List ℕ) → p ≡ part_read store → samples_in p ≡ s
-  samples_read p e = ap samples_in (e ∙ sym (left_yes (read_questions store) (sample_part store) [] 0 (sym h.sound.asked) refl)) ∙ h.samples
+  samples_read p e = ap samples_in (e ∙ sym (left_yes (read_questions store) (sample_part store) [] (sym h.sound.asked))) ∙ h.samples
 
-  mosaic_read : (before : List ℕ) (r : ReadPacket) (after : List ℕ) → length before ≡ f.width * f.height → Result (mosaic_call store before) r after → (r ≡ Sound f) × (after ≡ s)
+  mosaic_read : (before : List ℕ) (r : Result Fields Refusal) (after : List ℕ) → length before ≡ f.shape.width * f.shape.height → Outcome (mosaic_call store before) r after → (r ≡ Ok f) × (after ≡ s)
   mosaic_read before r after e result = (
-    result.answer.accepted yes ∙ ap (λ (g : Fields). Sound g) h.fields,
+    result.answer.accepted yes ∙ ap (λ (g : Fields). Ok g) h.fields,
     new_left (mosaic_call store before) result.leaves yes ∙ h.samples,
   )
     where
-      area : length before ≡ (fields_of store).width * (fields_of store).height
-      area = e ∙ ap (λ (g : Fields). g.width * g.height) (sym h.fields)
+      area : length before ≡ (fields_of store).shape.width * (fields_of store).shape.height
+      area = e ∙ ap (λ (g : Fields). g.shape.width * g.shape.height) (sym h.fields)
 
       yes : ask (mosaic_questions store (length before)) ≡ 0
       yes =
@@ -233,13 +231,13 @@ module _ (store : List ℕ) (f : Fields) (s : List ℕ) (h : Reads store f s) wh
           (all_yes_both (store_questions store) (filling_questions (fields_of store) (samples_of store) (length before)) h.sound.at.answers (eq-eqb _ _ area, (h.sound.small, tt)))
 
 -- the length that an accepted writing call answers
-abbrev length_or : ℕ → WrittenPacket → ℕ
-length_or n (Bytes m) = m
-length_or n (written.Refused number) = n
+abbrev length_or : ℕ → Result ℕ Refusal → ℕ
+length_or n (Ok m) = m
+length_or n (Err why) = n
 
 -- A packet written reads back as the same frame: the writer accepted fields f and these samples and answered n, and the buffer's first
 -- n bytes are read as those fields and those samples, behind any older bytes.
-pub write_then_read : (f : Fields) (samples before : List ℕ) (n : ℕ) (after : List ℕ) → Result (write_call f samples before) (Bytes n) after → ReadsBack f samples n after
+pub write_then_read : (f : Fields) (samples before : List ℕ) (n : ℕ) (after : List ℕ) → Outcome (write_call f samples before) (Ok n) after → ReadsBack f samples n after
 write_then_read f samples before n after result = record {
   how_many = count;
   fields = λ older. fields_read (older ++ take n after) f samples (reads older);
@@ -259,34 +257,34 @@ write_then_read f samples before n after result = record {
     first : take n after ≡ packet f samples
     first =
         (λ j. take (count j) (new_left (write_call f samples before) result.leaves yes j))
-        ∙ take_at (packet f samples) (drop (distance f) before) (distance f) (length-packet f samples (writable f samples (length before) 0 (sym yes) refl).given)
+        ∙ take_at (packet f samples) (drop (distance f) before) (distance f) (length-packet f samples (writable f samples (length before) (sym yes)).given)
 
     reads : (older : List ℕ) → Reads (older ++ take n after) f samples
     reads older = subst (λ (l : List ℕ). Reads (older ++ l) f samples) (sym first) (written_reads_back older f samples (length before) yes)
 
 -- the fields of a sound packet's answer
-abbrev fields_or : Fields → ReadPacket → Fields
-fields_or f (Sound g) = g
-fields_or f (Refused n) = f
+abbrev fields_or : Fields → Result Fields Refusal → Fields
+fields_or f (Ok g) = g
+fields_or f (Err why) = f
 
 -- what was read of a store, by either reader, is its packet's frame
 was_read : (store : List ℕ) (f : Fields) (s : List ℕ) → WasRead store f s → Reads store f s
 was_read store f s (into_mosaic before read) = record {
-  sound = (filling store (length before) 0 read.answer.number refl).packet;
+  sound = (filling store (length before) read.answer.number).packet;
   fields = sym (ap (fields_or f) (read.answer.accepted (sym read.answer.number)));
   samples = sym (new_left (mosaic_call store before) read.leaves (sym read.answer.number));
 }
 was_read store f s (as_part read part e copied) = record {
-  sound = sound store 0 read.number refl;
+  sound = sound store read.number;
   fields = sym (ap (fields_or f) (read.accepted (sym read.number)));
-  samples = ap samples_in (left_yes (read_questions store) (sample_part store) [] 0 read.number refl ∙ sym e) ∙ sym copied;
+  samples = ap samples_in (left_yes (read_questions store) (sample_part store) [] read.number ∙ sym e) ∙ sym copied;
 }
 
 -- A packet read and written again is the same bytes: its fields and samples were read of a store of bytes, by either reader, and are
 -- written into a buffer that is long enough. The writer accepts, and the buffer begins with the very bytes of the packet.
 pub read_then_write : (store : List ℕ) → Below 256 store → (f : Fields) (samples : List ℕ) → WasRead store f samples
-    → (before : List ℕ) (w : WrittenPacket) (after : List ℕ) → distance f ≤ length before → Result (write_call f samples before) w after
-    → (w ≡ Bytes (distance f)) × (after ≡ packet_in store ++ drop (distance f) before)
+    → (before : List ℕ) (w : Result ℕ Refusal) (after : List ℕ) → distance f ≤ length before → Outcome (write_call f samples before) w after
+    → (w ≡ Ok (distance f)) × (after ≡ packet_in store ++ drop (distance f) before)
 read_then_write store b f samples read before w after h result = (
   result.answer.accepted yes,
   new_left (write_call f samples before) result.leaves yes
@@ -305,8 +303,8 @@ read_then_write store b f samples read before w after h result = (
         ∙ accepted_again store k.sound b (length before) (subst (λ (g : Fields). distance g ≤ length before) (sym k.fields) h)
 
 -- A repeat is the same bytes: an accepted repeat call on two stores of bytes answers whether the packets' own bytes are the same.
-pub repeat_is_same_bytes : (a b : List ℕ) → Below 256 a → Below 256 b → (r : Repeat) → RepeatResult a b r → number_of_repeat r ≡ 0
-    → r ≡ cond (same_list (packet_in a) (packet_in b)) Yes No
+pub repeat_is_same_bytes : (a b : List ℕ) → Below 256 a → Below 256 b → (r : Result Bool Refusal) → RepeatResult a b r → number_of r ≡ 0
+    → r ≡ Ok (same_list (packet_in a) (packet_in b))
 repeat_is_same_bytes a b p q r result z =
-    let k = sound_both a b (number_of_repeat r) result.number z in
-    result.accepted (sym result.number ∙ z) ∙ ap (λ (x : Bool). cond x Yes No) (repeats_bytes a b p q k.0 k.1)
+    let k = sound_both a b (sym z ∙ result.number) in
+    result.accepted (sym result.number ∙ z) ∙ ap (λ (x : Bool). Ok x) (repeats_bytes a b p q k.0 k.1)

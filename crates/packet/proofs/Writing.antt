@@ -16,7 +16,6 @@ use Rattle.little_endian.proofs.Samples.{length-sample_bytes}
 use Rattle.packet.specs.Packet.{distance, trailer, packet}
 use Rattle.packet.specs.Calls.{fields_questions, writing_questions, write_questions}
 use Rattle.packet.specs.declared.Fields.{Fields}
-use Rattle.packet.specs.declared.WrittenPacket.TheVariants.{Bytes}
 use Rattle.packet.proofs.Stores.{Allowed, allowed}
 
 -- ---- one run of stores after another
@@ -25,14 +24,14 @@ sets_then l at p q k e f g = g ∙ (λ j. sets (f j) (e j) q) ∙ sets-append l 
 
 -- the trailer's six numbers, one after another
 pub trailer_stored : (l : List ℕ) (at : ℕ) (f : Fields) (d : ℕ) → d ≡ distance f → {x₁ x₂ x₃ x₄ x₅ x₆ : List ℕ}
-    → x₁ ≡ sets l at (bytes_of 2 f.width) → x₂ ≡ sets x₁ (at + 2) (bytes_of 2 f.height) → x₃ ≡ sets x₂ (at + 4) (bytes_of 1 f.layout)
+    → x₁ ≡ sets l at (bytes_of 2 f.shape.width) → x₂ ≡ sets x₁ (at + 2) (bytes_of 2 f.shape.height) → x₃ ≡ sets x₂ (at + 4) (bytes_of 1 f.shape.layout)
     → x₄ ≡ sets x₃ (at + 5) (bytes_of 1 f.settings.rounds) → x₅ ≡ sets x₄ (at + 6) (bytes_of 2 f.settings.threshold) → x₆ ≡ sets x₅ (at + 8) (bytes_of 4 d)
     → x₆ ≡ sets l at (trailer f)
 unfolding trailer bytes_of
 trailer_stored l at f d e {x₁} {x₂} {x₃} {x₄} {x₅} {x₆} e₁ e₂ e₃ e₄ e₅ e₆ =
-    let W = bytes_of 2 f.width in
-    let H = bytes_of 2 f.height in
-    let L = bytes_of 1 f.layout in
+    let W = bytes_of 2 f.shape.width in
+    let H = bytes_of 2 f.shape.height in
+    let L = bytes_of 1 f.shape.layout in
     let R = bytes_of 1 f.settings.rounds in
     let T = bytes_of 2 f.settings.threshold in
     sets_then l at (W ++ (H ++ (L ++ (R ++ T)))) (bytes_of 4 (distance f)) (at + 8) refl
@@ -46,22 +45,22 @@ trailer_stored l at f d e {x₁} {x₂} {x₃} {x₄} {x₅} {x₆} e₁ e₂ e�
 -- what a yes says of 1, 2, 3, 4, 5, 6, 9 and 14
 pub record Writable (f : Fields) (s : List ℕ) (room : ℕ) : Type 0 where
   pub fields : Allowed f
-  pub given : length s ≡ f.width * f.height
+  pub given : length s ≡ f.shape.width * f.shape.height
   pub small : all_at_most (ceiling_of f.settings) s ≡ true
   pub fit : distance f ≤ room
 
-pub writable : (f : Fields) (s : List ℕ) (room n : ℕ) → n ≡ ask (write_questions f s room) → n ≡ 0 → Writable f s room
-writable f s room n e z =
-    let y = all_yes_split (fields_questions f) (writing_questions f s room) (all_yes (write_questions f s room) tt n e z) in
+pub writable : (f : Fields) (s : List ℕ) (room : ℕ) → 0 ≡ ask (write_questions f s room) → Writable f s room
+writable f s room e =
+    let y = all_yes_split (fields_questions f) (writing_questions f s room) (all_yes (write_questions f s room) tt 0 e refl) in
     record {
       fields = allowed f y.0;
-      given = eqb-true (length s) (f.width * f.height) y.1.0;
+      given = eqb-true (length s) (f.shape.width * f.shape.height) y.1.0;
       small = y.1.1.0;
       fit = leb-true (distance f) room y.1.1.1.0;
     }
 
 -- ---- the call
-pub length-packet : (f : Fields) (s : List ℕ) → length s ≡ f.width * f.height → length (packet f s) ≡ distance f
+pub length-packet : (f : Fields) (s : List ℕ) → length s ≡ f.shape.width * f.shape.height → length (packet f s) ≡ distance f
 unfolding packet trailer bytes_of
 length-packet f s e = length-append (sample_bytes s) (trailer f) ∙ omega (arith, length-sample_bytes s)
 
@@ -76,5 +75,5 @@ packet_laid f s before m k i p q =
     ∙ ap (λ (j : ℕ). packet f s ++ drop j before) end
 
 -- and how many bytes
-pub bytes_written : (f : Fields) (s : List ℕ) {room : ℕ} (m : ℕ) → Writable f s room → m ≡ 2 * length s → Bytes (m + 12) ≡ Bytes (distance f)
-bytes_written f s m k i = ap (λ (j : ℕ). Bytes j) (let e = k.given in omega arith)
+pub bytes_written : (f : Fields) (s : List ℕ) {room : ℕ} (m : ℕ) → Writable f s room → m ≡ 2 * length s → m + 12 ≡ distance f
+bytes_written f s m k i = let e = k.given in omega arith

@@ -1,21 +1,16 @@
 -- The calls on packets: what each asks, and what its answer and its buffer are then. Assumes nothing.
-use Rattle.std.specs.Prelude.{ℕ, ◌*◌, cond, List, [], ◌∷◌, ◌++◌, leb, eqb, length, drop}
+use Rattle.std.specs.Prelude.{ℕ, ◌*◌, Bool, Result, List, [], ◌∷◌, ◌++◌, leb, eqb, length, drop}
 use Rattle.questions.specs.Settings.{ceiling_of}
 use Rattle.questions.specs.Questions.{Question, question, frame_questions, samples_question}
+use Rattle.questions.specs.declared.Refusal.{Refusal}
 use Rattle.questions.specs.Calls.{Answered, if_accepted, Call}
 use Rattle.packet.specs.Packet.{distance, packet, fields_of, distance_in, sample_part, samples_of, repeats}
 use Rattle.packet.specs.declared.Fields.{Fields}
-use Rattle.packet.specs.declared.ReadPacket.{ReadPacket}
-use Rattle.packet.specs.declared.ReadPacket.TheVariants as read
-use Rattle.packet.specs.declared.WrittenPacket.{WrittenPacket}
-use Rattle.packet.specs.declared.WrittenPacket.TheVariants as written
-use Rattle.packet.specs.declared.Repeat.{Repeat}
-use Rattle.packet.specs.declared.Repeat.TheVariants as repeat
 
 -- ---- the questions, in document 01's order
 -- 1, 2, 3, 4, 5
 abbrev pub fields_questions : Fields → List Question
-fields_questions f = frame_questions f.width f.height f.layout f.settings
+fields_questions f = frame_questions f.shape.width f.shape.height f.shape.layout f.settings
 
 -- 12 distance equal to 2·w·h + 12, 13 distance within the store, which has `held` bytes
 abbrev pub distance_questions : ℕ → Fields → ℕ → List Question
@@ -36,7 +31,7 @@ read_questions store = store_questions store ++ (ceiling_question (fields_of sto
 
 -- 7 mosaic to fill, of `room`, exactly w·h, 9
 abbrev pub filling_questions : Fields → List ℕ → ℕ → List Question
-filling_questions f samples room = question 7 (eqb room (f.width * f.height)) ∷ ceiling_question f samples ∷ []
+filling_questions f samples room = question 7 (eqb room (f.shape.width * f.shape.height)) ∷ ceiling_question f samples ∷ []
 
 -- reading into a mosaic of `room`: 11, 1, 2, 3, 4, 5, 12, 13, 7, 9
 abbrev pub mosaic_questions : List ℕ → ℕ → List Question
@@ -45,7 +40,7 @@ mosaic_questions store room = store_questions store ++ filling_questions (fields
 -- 6 given samples exactly w·h, 9, 14 buffer of `room` long enough
 abbrev pub writing_questions : Fields → List ℕ → ℕ → List Question
 writing_questions f samples room =
-    question 6 (eqb (length samples) (f.width * f.height)) ∷ ceiling_question f samples ∷ question 14 (leb (distance f) room) ∷ []
+    question 6 (eqb (length samples) (f.shape.width * f.shape.height)) ∷ ceiling_question f samples ∷ question 14 (leb (distance f) room) ∷ []
 
 -- the writer, into a buffer of `room`: 1, 2, 3, 4, 5, 6, 9, 14
 abbrev pub write_questions : Fields → List ℕ → ℕ → List Question
@@ -55,49 +50,33 @@ write_questions f samples room = fields_questions f ++ writing_questions f sampl
 abbrev pub repeat_questions : List ℕ → List ℕ → List Question
 repeat_questions a b = read_questions a ++ read_questions b
 
--- ---- document 01's number of each answer
-abbrev pub number_of_read : ReadPacket → ℕ
-number_of_read (read.Sound fields) = 0
-number_of_read (read.Refused number) = number
-
-abbrev pub number_of_written : WrittenPacket → ℕ
-number_of_written (written.Bytes n) = 0
-number_of_written (written.Refused number) = number
-
-abbrev pub number_of_repeat : Repeat → ℕ
-number_of_repeat repeat.Yes = 0
-number_of_repeat repeat.No = 0
-number_of_repeat (repeat.Refused number) = number
-
 -- ---- what is promised
 -- the reader's fields
-abbrev pub ReadResult : List ℕ → ReadPacket → Type 0
-ReadResult store r = Answered number_of_read (read_questions store) (read.Sound (fields_of store)) r
+abbrev pub ReadResult : List ℕ → Result Fields Refusal → Type 0
+ReadResult store r = Answered (read_questions store) (fields_of store) r
 
 -- the reader's part of the store: the empty part where it is refused
 abbrev pub part_read : List ℕ → List ℕ
 part_read store = if_accepted (read_questions store) (sample_part store) []
 
 -- reading into a mosaic that held `before`: it holds the samples then
-abbrev pub mosaic_call : List ℕ → List ℕ → Call ReadPacket (List ℕ)
+abbrev pub mosaic_call : List ℕ → List ℕ → Call Fields (List ℕ)
 mosaic_call store before = record {
   questions = mosaic_questions store (length before);
-  number_of = number_of_read;
-  answer = read.Sound (fields_of store);
+  answer = fields_of store;
   new = samples_of store;
   old = before;
 }
 
 -- the writer, given a buffer that held `before`: its first bytes are the packet then
-abbrev pub write_call : Fields → List ℕ → List ℕ → Call WrittenPacket (List ℕ)
+abbrev pub write_call : Fields → List ℕ → List ℕ → Call ℕ (List ℕ)
 write_call f samples before = record {
   questions = write_questions f samples (length before);
-  number_of = number_of_written;
-  answer = written.Bytes (distance f);
+  answer = distance f;
   new = packet f samples ++ drop (distance f) before;
   old = before;
 }
 
 -- the repeat call
-abbrev pub RepeatResult : List ℕ → List ℕ → Repeat → Type 0
-RepeatResult a b r = Answered number_of_repeat (repeat_questions a b) (cond (repeats a b) repeat.Yes repeat.No) r
+abbrev pub RepeatResult : List ℕ → List ℕ → Result Bool Refusal → Type 0
+RepeatResult a b r = Answered (repeat_questions a b) (repeats a b) r

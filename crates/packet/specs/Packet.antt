@@ -7,12 +7,12 @@ use Rattle.packet.specs.declared.Fields.{Fields}
 -- ---- the packet's bytes
 -- the distance back, from the packet's end to its first sample: the packet's length
 abbrev pub distance : Fields → ℕ
-distance f = 2 * (f.width * f.height) + 12
+distance f = 2 * (f.shape.width * f.shape.height) + 12
 
 -- width (2), height (2), layout (1), rounds (1), threshold (2), distance back (4)
 unfoldable pub trailer : Fields → List ℕ
 trailer f =
-    bytes_of 2 f.width ++ (bytes_of 2 f.height ++ (bytes_of 1 f.layout ++ (bytes_of 1 f.settings.rounds ++ (bytes_of 2 f.settings.threshold ++ bytes_of 4 (distance f)))))
+    bytes_of 2 f.shape.width ++ (bytes_of 2 f.shape.height ++ (bytes_of 1 f.shape.layout ++ (bytes_of 1 f.settings.rounds ++ (bytes_of 2 f.settings.threshold ++ bytes_of 4 (distance f)))))
 
 unfoldable pub packet : Fields → List ℕ → List ℕ
 packet f samples = sample_bytes samples ++ trailer f
@@ -24,9 +24,11 @@ trailer_place store = length store - 12
 
 unfoldable pub fields_of : List ℕ → Fields
 fields_of store = record {
-  width = number_at 2 store (trailer_place store);
-  height = number_at 2 store (trailer_place store + 2);
-  layout = number_at 1 store (trailer_place store + 4);
+  shape = record {
+    width = number_at 2 store (trailer_place store);
+    height = number_at 2 store (trailer_place store + 2);
+    layout = number_at 1 store (trailer_place store + 4);
+  };
   settings = record { rounds = number_at 1 store (trailer_place store + 5); threshold = number_at 2 store (trailer_place store + 6) };
 }
 
@@ -51,9 +53,9 @@ packet_in store = drop (first_place store) store
 -- ---- packet A repeats packet B when all fields, with the layout the level, and all samples agree
 unfoldable pub same_fields : Fields → Fields → Bool
 same_fields f g =
-    eqb f.width g.width
-    && (eqb f.height g.height
-    && (eqb f.layout g.layout
+    eqb f.shape.width g.shape.width
+    && (eqb f.shape.height g.shape.height
+    && (eqb f.shape.layout g.shape.layout
     && (eqb f.settings.rounds g.settings.rounds
     && eqb f.settings.threshold g.settings.threshold)))
 

@@ -1,67 +1,54 @@
-// Text and numbers on standard output. A write that fails ends the program with its error.
+// Answers on standard output. A write that fails ends the program with its error.
 use packet::Fields;
+use questions::Refusal;
+use std::fmt::Display;
 use std::io;
 
-pub(crate) fn text(rt: &impl Print, bytes: &[u8]) -> io::Result<()> {
-    rt.write_all(bytes)
+fn refused(rt: &impl Print, why: Refusal) -> io::Result<()> {
+    print!(rt; "refused {}", why.number())
 }
 
-pub(crate) fn end_line(rt: &impl Print) -> io::Result<()> {
-    text(rt, b"\n")
+fn fields(rt: &impl Print, f: Fields) -> io::Result<()> {
+    let Fields { shape, settings } = f;
+    print!(rt;
+        "{} {} {} {} {}",
+        shape.width, shape.height, shape.layout, settings.rounds, settings.threshold
+    )
 }
 
-pub(crate) fn number(rt: &impl Print, n: usize) -> io::Result<()> {
-    rt.print(n)
+// A line of what a trailer says, or of a refusal.
+pub(crate) fn read(rt: &impl Print, answer: Result<Fields, Refusal>) -> io::Result<()> {
+    match answer {
+        Ok(f) => fields(rt, f)?,
+        Err(why) => refused(rt, why)?,
+    }
+    println!(rt)
 }
 
-// A number after a space.
-pub(crate) fn spaced(rt: &impl Print, n: usize) -> io::Result<()> {
-    text(rt, b" ")?;
-    number(rt, n)
+// A line of how many bytes were written, or of a refusal.
+pub(crate) fn written(rt: &impl Print, answer: Result<usize, Refusal>) -> io::Result<()> {
+    match answer {
+        Ok(n) => print!(rt; "wrote {n}")?,
+        Err(why) => refused(rt, why)?,
+    }
+    println!(rt)
 }
 
-pub(crate) fn refused(rt: &impl Print, n: u32) -> io::Result<()> {
-    text(rt, b"refused ")?;
-    number(rt, n as usize)
-}
-
-// A line of a refusal.
-pub(crate) fn refused_line(rt: &impl Print, n: u32) -> io::Result<()> {
-    refused(rt, n)?;
-    end_line(rt)
-}
-
-// The number at a place of a line: a space parts it from the one before.
-pub(crate) fn at_place(rt: &impl Print, place: usize, n: usize) -> io::Result<()> {
-    if place == 0 {
-        number(rt, n)
-    } else {
-        spaced(rt, n)
+pub(crate) fn repeats(rt: &impl Print, answer: Result<bool, Refusal>) -> io::Result<()> {
+    match answer {
+        Ok(true) => print!(rt; "yes"),
+        Ok(false) => print!(rt; "no"),
+        Err(why) => refused(rt, why),
     }
 }
 
-// A line of all bytes.
-pub(crate) fn bytes(rt: &impl Print, bytes: &[u8]) -> io::Result<()> {
-    for (k, byte) in bytes.iter().enumerate() {
-        at_place(rt, k, *byte as usize)?;
+// A line of all numbers, parted by spaces. The other program of examples has the same function; a crate for it alone would be more to read.
+pub(crate) fn line<T: Display>(rt: &impl Print, numbers: &[T]) -> io::Result<()> {
+    for (k, number) in numbers.iter().enumerate() {
+        if k != 0 {
+            print!(rt; " ")?;
+        }
+        rt.print(number)?;
     }
-    end_line(rt)
-}
-
-// A line of all samples.
-pub(crate) fn samples(rt: &impl Print, samples: &[u16]) -> io::Result<()> {
-    for (k, sample) in samples.iter().enumerate() {
-        at_place(rt, k, *sample as usize)?;
-    }
-    end_line(rt)
-}
-
-// A line of what a trailer says.
-pub(crate) fn fields(rt: &impl Print, f: Fields) -> io::Result<()> {
-    number(rt, f.width)?;
-    spaced(rt, f.height)?;
-    spaced(rt, f.layout as usize)?;
-    spaced(rt, f.settings.rounds as usize)?;
-    spaced(rt, f.settings.threshold as usize)?;
-    end_line(rt)
+    println!(rt)
 }

@@ -2,25 +2,14 @@
 ghost use Rattle.std.specs.Prelude.{◌≤◌};
 
 use crate::print;
-use packet::{Fields, WrittenPacket};
-use questions::Settings;
+use packet::Fields;
+use questions::{Settings, Shape};
 use std::io;
-
-fn written(rt: &impl Print, answer: WrittenPacket) -> io::Result<()> {
-    match answer {
-        WrittenPacket::Bytes(n) => {
-            print::text(rt, b"wrote ")?;
-            print::number(rt, n)?;
-        }
-        WrittenPacket::Refused(n) => print::refused(rt, n)?,
-    }
-    print::end_line(rt)
-}
 
 // A line of the answer and a line of the whole buffer after it.
 fn show(rt: &impl Print, f: Fields, samples: &[u16], out: &mut [u8]) -> io::Result<()> {
-    written(rt, packet::write_packet(f, samples, out))?;
-    print::bytes(rt, out)
+    print::written(rt, packet::write_packet(f, samples, out))?;
+    print::line(rt, out)
 }
 
 // Six samples, of which the last is given, into a buffer of so many bytes.
@@ -29,23 +18,26 @@ fn example(rt: &impl Print, f: Fields, last: u16, room: usize) -> io::Result<()>
 {
     let samples = [0, 1, 255, 256, 4094, last];
     let mut out = [255u8; 26];
-    show(rt, f, &samples, &mut out[0..room])
+    show(rt, f, &samples, &mut out[..room])
 }
 
 fn fields(width: usize, height: usize, layout: u8, rounds: u8, threshold: u16) -> Fields {
     Fields {
-        width,
-        height,
-        layout,
+        shape: Shape {
+            width,
+            height,
+            layout,
+        },
         settings: Settings { rounds, threshold },
     }
 }
 
 // Room for one byte less than the packet, for the packet, and for two bytes more, which stay; and for a packet with two levels.
 pub(crate) fn lengths(rt: &impl Print) -> io::Result<()> {
-    example(rt, fields(3, 2, 1, 64, 4095), 4095, 23)?;
-    example(rt, fields(3, 2, 1, 64, 4095), 4095, 24)?;
-    example(rt, fields(3, 2, 1, 64, 4095), 4095, 26)?;
+    let sound = fields(3, 2, 1, 64, 4095);
+    example(rt, sound, 4095, 23)?;
+    example(rt, sound, 4095, 24)?;
+    example(rt, sound, 4095, 26)?;
     example(rt, fields(3, 2, 7, 64, 4095), 4095, 24)
 }
 

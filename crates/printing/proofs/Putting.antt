@@ -1,12 +1,14 @@
--- Text put into a buffer: one part after another, the last byte before the others, and byte by byte. Assumes nothing.
-use Prim.Native.Nat.{ℕ, suc, ◌+◌, ◌≤◌, ◌<◌}
+-- Text put into a buffer: one part after another, the last byte before the others, and a part of bytes at once. Assumes nothing.
+use Prim.Native.Nat.{ℕ, suc, ◌+◌, ◌≤◌}
 use mathlib.Core.Path.{◌≡◌, refl, sym, ap, ◌∙◌}
 use mathlib.Core.List.{List, [], ◌∷◌, ◌++◌}
 use native.Mathlib.Nat.{add-zero, zero-add}
-use native.Mathlib.Numerals.{add-one}
 use native.Mathlib.Omega.{arith}
-use lib.ListN.{length, get_or, drop, set, length-append, drop_of_length-le}
-use lib.Seq.{sets, set_comm, drop-cons}
+use lib.ListN.{length, take, drop, set, length-append}
+use lib.Seq.{sets, sets-eq, set_comm}
+use borrow.Rule.Slice.PartMut.{put_mid}
+use Rattle.std.proofs.lemmas.Slice.{put_mid-paste}
+use Rattle.std.proofs.lemmas.List.{take_all}
 use Rattle.integers.proofs.Lists.{sets-append}
 use Rattle.printing.specs.Text.{Put, Written}
 
@@ -26,19 +28,20 @@ put_then {at} {k} {r} {p} {q} {before} f g = record {
 pub put_nothing : (at : ℕ) (before : List ℕ) → Put at [] before at before
 put_nothing at before = record { buffer = refl; place = sym (add-zero at) }
 
--- at the front
-pub put_front : (p : List ℕ) {r : ℕ} {before x : List ℕ} → length p ≤ length before → Put 0 p before r x → Written p before r x
-put_front p h f = record { buffer = f.buffer; bytes = f.place ∙ zero-add (length p); fit = omega arith }
+-- at the front, where the buffer is given back as the last part left it
+pub put_front : (p : List ℕ) {r : ℕ} {before x y : List ℕ} → length p ≤ length before → Put 0 p before r x → y ≡ x → Written p before r y
+put_front p h f e = record { buffer = e ∙ f.buffer; bytes = f.place ∙ zero-add (length p); fit = omega arith }
 
--- ---- the loop that stores bytes: those that are left
-pub bytes_step : (out : List ℕ) (at : ℕ) (bytes : List ℕ) (k : ℕ) → k < length bytes
-    → sets (set out (at + k) (get_or bytes k 0)) (at + (k + 1)) (drop (k + 1) bytes) ≡ sets out (at + k) (drop k bytes)
-bytes_step out at bytes k h =
-    (λ j. sets (set out (at + k) (get_or bytes k 0)) (next j) (drop (add-one k j) bytes))
-    ∙ ap (sets out (at + k)) (sym (drop-cons bytes k 0 h))
+-- ---- bytes copied into a part of the buffer
+pub put_part : (at m : ℕ) (before bytes : List ℕ) {y : List ℕ} → m ≡ length bytes → at + length bytes ≤ length before → y ≡ bytes
+    → Put at bytes before (at + length bytes) (put_mid at m before y)
+put_part at m before bytes {y} e h p = record { buffer = laid; place = refl }
   where
-    next : at + (k + 1) ≡ suc (at + k)
-    next = omega arith
+    n : ℕ
+    n = length bytes
 
-pub bytes_end : (out : List ℕ) (at : ℕ) (bytes : List ℕ) (k : ℕ) → length bytes ≤ k → out ≡ sets out at (drop k bytes)
-bytes_end out at bytes k h = ap (sets out at) (sym (drop_of_length-le bytes {i = k} h))
+    laid : put_mid at m before y ≡ sets before at bytes
+    laid =
+        put_mid-paste at m before y bytes n p (sym e) refl
+        ∙ ap (λ (l : List ℕ). (take at before ++ l) ++ drop (at + n) before) (take_all n bytes (omega arith))
+        ∙ sym (sets-eq bytes before at h)

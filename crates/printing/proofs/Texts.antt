@@ -73,15 +73,15 @@ decimal-put at n k {before} e f = record {
 }
 
 -- ---- the loop that puts rows: one number more, and no number left
-pub rows_step : (w : ℕ) (s : List ℕ) (k : ℕ) {at i j end c : ℕ} {out x y after : List ℕ} → k < length s
-    → Put at (decimal (get_or s k 0)) out i x → c ≡ separator w (k + 1) → Put i (c ∷ []) x j y → Put j (rows_after w (k + 1) (drop (k + 1) s)) y end after
+pub rows_step : (w : ℕ) (s : List ℕ) (k n : ℕ) {at i j end c : ℕ} {out x y after : List ℕ} → k < length s → n ≡ get_or s k 0
+    → Put at (decimal n) out i x → c ≡ separator w (k + 1) → Put i (c ∷ []) x j y → Put j (rows_after w (k + 1) (drop (k + 1) s)) y end after
     → Put at (rows_after w k (drop k s)) out end after
 unfolding rows_after
-rows_step w s k {at} {end = end} {out = out} {after = after} h n e b rest =
+rows_step w s k n {at} {end = end} {out = out} {after = after} h is d e b rest =
     subst (λ (text : List ℕ). Put at text out end after)
-    ((λ i. decimal (get_or s k 0) ++ ((e ∙ ap (separator w) (add-one k)) i ∷ rows_after w (add-one k i) (drop (add-one k i) s)))
+    ((λ i. decimal (is i) ++ ((e ∙ ap (separator w) (add-one k)) i ∷ rows_after w (add-one k i) (drop (add-one k i) s)))
     ∙ ap (rows_after w k) (sym (drop-cons s k 0 h)))
-    (put_then n (put_then b rest))
+    (put_then d (put_then b rest))
 
 pub rows_end : (w : ℕ) (s : List ℕ) (k at : ℕ) (out : List ℕ) → length s ≤ k → Put at (rows_after w k (drop k s)) out at out
 unfolding rows_after

@@ -8,71 +8,33 @@ ghost use Rattle.printing.specs.Text.{digits, digit_count, decimal, separator, r
 
 // ---- numbers
 
-// How many digits a number below 100,000 has.
+// How many digits a number below 100,000 has. By cases, as its definition has them: `checked_ilog10` would leave 0 a case
+// of its own.
+#[tactic(auto, unfolding(crate::specs::Text::digit_count))]
 fn digit_count(n: usize) -> usize
-    ensures { result ≡ digit_count n }
+    ensures count { result ≡ digit_count n }
+    ensures few { result ≤ 5 }
 {
-    if n < 10 {
-        return 1;
+    match n {
+        0..=9 => 1,
+        10..=99 => 2,
+        100..=999 => 3,
+        1000..=9999 => 4,
+        _ => 5,
     }
-    if n < 100 {
-        return 2;
-    }
-    if n < 1000 {
-        return 3;
-    }
-    if n < 10000 { 4 } else { 5 }
 }
 
-// The last k digits of n, into `out` from `at` on. The last one comes first.
+// The last k digits of n, into `out` from `at` on. The last one comes first; a digit fits a byte, as is proved.
 fn put_digits(out: &mut [u8], at: usize, k: usize, n: usize)
     requires { at + k ≤ length out.old }
     ensures { out.new ≡ sets out.old at (digits k n) }
 {
-    let mut left = k;
     let mut rest = n;
-    while 0 < left {
-        left -= 1;
+    for left in (0..k).rev() {
         out[at + left] = b'0' + (rest % 10) as u8;
         rest /= 10;
     }
 }
-
-// A number below 100,000, into `out` from `at` on; the place after it.
-fn put_decimal(out: &mut [u8], at: usize, n: usize) -> usize
-    requires { at + 5 ≤ length out.old }
-    ensures { Put at (decimal n) out.old result out.new × (result ≤ at + 5) }
-{
-    let count = digit_count(n);
-    put_digits(out, at, count, n);
-    at + count
-}
-
-// ---- bytes
-
-// A byte, into `out` at `at`; the place after it.
-fn put_byte(out: &mut [u8], at: usize, byte: u8) -> usize
-    requires { at < length out.old }
-    ensures { Put at (byte ∷ []) out.old result out.new }
-{
-    out[at] = byte;
-    at + 1
-}
-
-// Bytes, into `out` from `at` on; the place after them.
-fn put_bytes(out: &mut [u8], at: usize, bytes: &[u8]) -> usize
-    requires { at + length bytes.now ≤ length out.old }
-    ensures { Put at bytes.now out.old result out.new }
-{
-    let mut k = 0;
-    while k < bytes.len() {
-        out[at + k] = bytes[k];
-        k += 1;
-    }
-    at + k
-}
-
-// ---- planes
 
 // What follows the n-th number of a plane.
 fn separator(width: usize, n: usize) -> u8
@@ -82,19 +44,60 @@ fn separator(width: usize, n: usize) -> u8
     if n % width == 0 { b'\n' } else { b' ' }
 }
 
-// The rows of a plane, into `out` from `from` on; the place after them. A sample takes five digits and what follows it, at most.
-fn put_rows(out: &mut [u8], from: usize, width: usize, samples: &[u16]) -> usize
-    requires { (1 ≤ width) × (from + 6 * length samples.now ≤ length out.old) }
-    ensures { Put from (rows width samples.now) out.old result out.new × (result ≤ from + 6 * length samples.now) }
-{
-    let mut k = 0;
-    let mut at = from;
-    while k < samples.len() {
-        at = put_decimal(out, at, samples[k] as usize);
-        k += 1;
-        at = put_byte(out, at, separator(width, k));
+// ---- parts of a text
+
+// Puts text into a lent buffer, each part behind the one before. `end` is where the next part goes.
+#[derive(Drop)]
+struct Printer<'a> {
+    out: &'a mut [u8],
+    end: usize,
+}
+
+impl Printer<'_> {
+    fn byte(&mut self, byte: u8)
+        requires { self.old.end < length self.old.out.now }
+        ensures put { Put self.old.end (byte ∷ []) self.old.out.now self.new.end self.new.out.now }
+        ensures same_buffer { (self.new.out.ghost_name ≡ self.old.out.ghost_name) × (length self.new.out.now ≡ length self.old.out.now) }
+    {
+        self.out[self.end] = byte;
+        self.end += 1;
     }
-    at
+
+    fn bytes(&mut self, bytes: &[u8])
+        requires { self.old.end + length bytes.now ≤ length self.old.out.now }
+        ensures put { Put self.old.end bytes.now self.old.out.now self.new.end self.new.out.now }
+        ensures same_buffer { (self.new.out.ghost_name ≡ self.old.out.ghost_name) × (length self.new.out.now ≡ length self.old.out.now) }
+    {
+        let at = self.end;
+        self.end += bytes.len();
+        self.out[at..self.end].copy_from_slice(bytes);
+    }
+
+    // A number below 100,000. By hand: `write!` promises its bytes only where it answers Ok, and writes all digits of a larger number, where
+    // `decimal` has the last five.
+    fn decimal(&mut self, n: usize)
+        requires { self.old.end + 5 ≤ length self.old.out.now }
+        ensures put { Put self.old.end (decimal n) self.old.out.now self.new.end self.new.out.now }
+        ensures short { self.new.end ≤ self.old.end + 5 }
+        ensures same_buffer { (self.new.out.ghost_name ≡ self.old.out.ghost_name) × (length self.new.out.now ≡ length self.old.out.now) }
+    {
+        let count = digit_count(n);
+        put_digits(self.out, self.end, count, n);
+        self.end += count;
+    }
+
+    // The rows of a plane. A sample takes five digits and what follows it, at most.
+    fn rows(&mut self, width: usize, samples: &[u16])
+        requires { (1 ≤ width) × (self.old.end + 6 * length samples.now ≤ length self.old.out.now) }
+        ensures put { Put self.old.end (rows width samples.now) self.old.out.now self.new.end self.new.out.now }
+        ensures short { self.new.end ≤ self.old.end + 6 * length samples.now }
+        ensures same_buffer { (self.new.out.ghost_name ≡ self.old.out.ghost_name) × (length self.new.out.now ≡ length self.old.out.now) }
+    {
+        for (k, sample) in samples.iter().enumerate() {
+            self.decimal(usize::from(*sample));
+            self.byte(separator(width, k + 1));
+        }
+    }
 }
 
 // ---- what is printed
@@ -112,13 +115,15 @@ pub fn put_frame(
     requires blue_in_bounds { 12 + 6 * (length red.now + length green.now + length blue.now) ≤ length out.old }
     ensures { Written (frame_text width height (planes red.now green.now blue.now)) out.old result out.new }
 {
-    let after_width = put_decimal(out, 0, width);
-    let at_height = put_byte(out, after_width, b' ');
-    let after_height = put_decimal(out, at_height, height);
-    let at_red = put_byte(out, after_height, b'\n');
-    let at_green = put_rows(out, at_red, width, red);
-    let at_blue = put_rows(out, at_green, width, green);
-    put_rows(out, at_blue, width, blue)
+    let mut text = Printer { out, end: 0 };
+    text.decimal(width);
+    text.byte(b' ');
+    text.decimal(height);
+    text.byte(b'\n');
+    text.rows(width, red);
+    text.rows(width, green);
+    text.rows(width, blue);
+    text.end
 }
 
 // A refusal's line, at the front of `out`; how many bytes. The rest of `out` stays.
@@ -126,7 +131,10 @@ pub fn put_refusal(out: &mut [u8], number: u32) -> usize
     requires { 14 ≤ length out.old }
     ensures { Written (refusal number) out.old result out.new }
 {
-    let at_number = put_bytes(out, 0, b"refused ");
-    let after_number = put_decimal(out, at_number, number as usize);
-    put_byte(out, after_number, b'\n')
+    let mut line = Printer { out, end: 0 };
+    line.bytes(b"refused ");
+    // std has no From of 32 bits to a `usize`
+    line.decimal(number as usize);
+    line.byte(b'\n');
+    line.end
 }

@@ -8,38 +8,32 @@ ghost use Rattle.packet.specs.Packet.{fields_of, samples_of};
 ghost use Rattle.printing.specs.Text.{Written};
 ghost use Rattle.program.specs.Program.{program_questions, finished_text, program_text, InputResult, Buffers};
 
-use packet::{Fields, ReadPacket};
+use packet::Fields;
+use questions::Refusal;
 
 // The reader's answer. 17 refuses more than 4,096 bytes, before the reader, and more than 1,024 samples, after it.
-fn read_input(input: &[u8]) -> ReadPacket
+fn read_input(input: &[u8]) -> Result<Fields, Refusal>
     ensures { InputResult input.now result }
 {
     if 4096 < input.len() {
-        return ReadPacket::Refused(17);
+        return Err(Refusal::ProgramInput);
     }
-    let read = packet::read_packet(input);
-    let ReadPacket::Sound(f) = read else {
-        return read;
-    };
-    if 1024 < f.width * f.height {
-        return ReadPacket::Refused(17);
+    let f = packet::read_packet(input)?;
+    if 1024 < f.shape.width * f.shape.height {
+        return Err(Refusal::ProgramInput);
     }
-    read
+    Ok(f)
 }
 
 // The number of the program's refusal, 0 for an accepted input: question 17 of the bytes, the reader's, 17 of the samples.
 pub fn program_refusal(input: &[u8]) -> u32
     ensures { result ≡ ask (program_questions input.now) }
 {
-    let read = read_input(input);
-    match read {
-        ReadPacket::Sound(_) => 0,
-        ReadPacket::Refused(number) => number,
-    }
+    questions::number(read_input(input))
 }
 
-// The text of an accepted input, at the front of `out`; how many bytes. The reader and the finishing call then accept too, so their
-// answers are not looked at.
+// The text of an accepted input, at the front of `out`; how many bytes. The reader and the finishing call then accept too.
+// Lent lists go one by one (docs/DECISIONS.md, "Lent lists").
 fn put_planes(
     input: &[u8],
     f: Fields,
@@ -53,15 +47,15 @@ fn put_planes(
 ) -> usize
     requires input_value { ask (program_questions input.now) ≡ 0 }
     requires f_value { f ≡ fields_of input.now }
-    requires buffers { Buffers (f.width * f.height) mosaic.old (lent red.old green.old blue.old work.old wide_work.old) out.old }
+    requires buffers { Buffers (f.shape.width * f.shape.height) mosaic.old (lent red.old green.old blue.old work.old wide_work.old) out.old }
     ensures { Written (finished_text f (samples_of input.now)) out.old result out.new }
 {
-    packet::read_mosaic(input, mosaic);
-    let settings = f.settings;
+    packet::read_mosaic(input, mosaic).unwrap();
     finishing::finish_frame(
-        f.width, f.height, f.layout, settings, mosaic, red, green, blue, work, wide_work,
-    );
-    printing::put_frame(out, f.width, f.height, red, green, blue)
+        f.shape, f.settings, mosaic, red, green, blue, work, wide_work,
+    )
+    .unwrap();
+    printing::put_frame(out, f.shape.width, f.shape.height, red, green, blue)
 }
 
 // The same, by way of buffers of its own, of which it lends just as much as the frame has samples.
@@ -70,7 +64,7 @@ fn put_finished(input: &[u8], f: Fields, out: &mut [u8; 19456]) -> usize
     requires f_value { f ≡ fields_of input.now }
     ensures { Written (finished_text f (samples_of input.now)) out.old result out.new }
 {
-    let count = f.width * f.height;
+    let count = f.shape.width * f.shape.height;
     let mut mosaic = [0u16; 1024];
     let mut red = [0u16; 1024];
     let mut green = [0u16; 1024];
@@ -95,9 +89,8 @@ fn put_finished(input: &[u8], f: Fields, out: &mut [u8; 19456]) -> usize
 pub fn program_text(input: &[u8], out: &mut [u8; 19456]) -> usize
     ensures { Written (program_text input.now) out.old result out.new }
 {
-    let read = read_input(input);
-    match read {
-        ReadPacket::Sound(f) => put_finished(input, f, out),
-        ReadPacket::Refused(number) => printing::put_refusal(out, number),
+    match read_input(input) {
+        Ok(f) => put_finished(input, f, out),
+        Err(refusal) => printing::put_refusal(out, refusal.number()),
     }
 }

@@ -157,10 +157,6 @@ and_true : (b : Bool) → (b && true) ≡ b
 and_true true = refl
 and_true false = refl
 
-and_false : (b : Bool) → (b && false) ≡ false
-and_false true = refl
-and_false false = refl
-
 -- with one more at the end
 all_at_most_snoc : (m : ℕ) (l : List ℕ) (x : ℕ) → all_at_most m (l ++ (x ∷ [])) ≡ (all_at_most m l && leb x m)
 unfolding all_at_most
@@ -177,19 +173,15 @@ scan_more m most k f {x} {y} e p q =
     ap (λ (n : ℕ). leb n m) q ∙ leb-max most x m ∙ (λ j. e j && leb (p j) m)
     ∙ sym (all_at_most_snoc m (tabulate k f) (f k)) ∙ ap (λ (n : ℕ). all_at_most m (tabulate n f)) (sym (add-one k))
 
--- ---- the scan that marks: `found` is 0 as long as no number above m has come
-pub mark_none : (m : ℕ) (f : ℕ → ℕ) → true ≡ all_at_most m (tabulate 0 f)
+-- ---- the scan that tests each number, also after one above m
+pub within_none : (m : ℕ) (f : ℕ → ℕ) → true ≡ all_at_most m (tabulate 0 f)
 unfolding all_at_most tabulate
-mark_none m f = refl
+within_none m f = refl
 
-pub mark_more : (m found k : ℕ) (f : ℕ → ℕ) {y : ℕ} → eqb found 0 ≡ all_at_most m (tabulate k f) → y ≡ cond (leb (f k) m) found 1 → eqb y 0 ≡ all_at_most m (tabulate (k + 1) f)
+pub within_more : (m k : ℕ) (f : ℕ → ℕ) {b x : Bool} → b ≡ all_at_most m (tabulate k f) → x ≡ leb (f k) m → (b && x) ≡ all_at_most m (tabulate (k + 1) f)
 unfolding tabulate
-mark_more m found k f e q =
-    ap (λ (n : ℕ). eqb n 0) q ∙ either (leb (f k) m) ∙ sym (all_at_most_snoc m (tabulate k f) (f k)) ∙ ap (λ (n : ℕ). all_at_most m (tabulate n f)) (sym (add-one k))
-  where
-    either : (b : Bool) → eqb (cond b found 1) 0 ≡ (all_at_most m (tabulate k f) && b)
-    either true = e ∙ sym (and_true (all_at_most m (tabulate k f)))
-    either false = sym (and_false (all_at_most m (tabulate k f)))
+within_more m k f e q =
+    (λ i. e i && q i) ∙ sym (all_at_most_snoc m (tabulate k f) (f k)) ∙ ap (λ (n : ℕ). all_at_most m (tabulate n f)) (sym (add-one k))
 
 -- ---- question 9's test, place by place
 pub all_at_most_at : (m : ℕ) (l : List ℕ) → T (all_at_most m l) → (k : ℕ) → k < length l → get_or l k 0 ≤ m

@@ -6,6 +6,7 @@ use Rattle.planes.specs.Planes.{Frame, Planes, planes, lengths}
 use Rattle.questions.specs.Settings.{ceiling_of}
 use Rattle.questions.specs.Questions.{Question, question, frame_questions, samples_question}
 use Rattle.questions.specs.declared.Settings.{Settings}
+use Rattle.questions.specs.declared.Rooms.{Rooms as Lengths}
 
 -- ---- what is lent
 pub record Lent : Type 0 where
@@ -25,6 +26,10 @@ pub record Rooms : Type 0 where
 
 abbrev pub rooms : ℕ → ℕ → ℕ → ℕ → ℕ → Rooms
 rooms red green blue work wide = record { three = planes red green blue; work = work; wide = wide }
+
+-- by the numbers that a check is given
+abbrev pub rooms_in : Lengths → Rooms
+rooms_in given = rooms given.red given.green given.blue given.work given.wide
 
 abbrev pub rooms_of : Lent → Rooms
 rooms_of given = record { three = lengths given.three; work = length given.work; wide = length given.wide }

@@ -1,6 +1,12 @@
--- A frame's settings, and what is read off them. Assumes nothing.
-use Rattle.std.specs.Prelude.{ℕ}
+-- A frame's width, height and layout, its settings, and what is read off them. Assumes nothing.
+use Rattle.std.specs.Prelude.{ℕ, List}
+use Rattle.planes.specs.Planes.{Frame, frame}
+use Rattle.questions.specs.declared.Shape.{Shape}
 use Rattle.questions.specs.declared.Settings.{Settings}
+
+-- a frame, by its width, height and layout, and its samples
+abbrev pub framed : Shape → List ℕ → Frame
+framed shape samples = frame shape.width shape.height shape.layout samples
 
 abbrev pub settings : ℕ → ℕ → Settings
 settings rounds threshold = record { rounds = rounds; threshold = threshold }

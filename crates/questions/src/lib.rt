@@ -1,17 +1,23 @@
-// Inner: a frame's settings, what a call answers, and the checks that calls share. Each check answers the number of the first question
-// answered no, or 0.
+// Inner: a frame's settings, why a call refuses, and the checks that calls share. Each check refuses for the first question answered no.
 #![tactic(auto)]
 
 ghost use Rattle.std.specs.Prelude.{◌≡◌, max, ◌≤◌};
 ghost use Rattle.planes.specs.Layout.{two_levels};
-ghost use Rattle.planes.specs.Planes.{frame};
-ghost use Rattle.questions.specs.Settings.{rounds_of, ceiling_of};
+ghost use Rattle.questions.specs.Settings.{framed, rounds_of, ceiling_of};
 ghost use Rattle.questions.specs.Questions.{ask, all_at_most, size_questions, shape_questions, settings_questions, frame_questions};
-ghost use Rattle.questions.specs.Lent.{rooms, wide_enough, buffer_questions, lent_questions};
-ghost use Rattle.questions.specs.Calls.{number_of_answer};
+ghost use Rattle.questions.specs.Lent.{rooms_in, wide_enough, buffer_questions, lent_questions};
+ghost use Rattle.questions.specs.Refusals.{refusal_number, number_of};
 
-// A frame's settings. Its width, height and layout are not among them: they turn, and settings do not.
-#[derive(Clone, Copy)]
+// What of a frame turns beside its samples. The layout is no enum: any byte may come, since question 3 is asked of it.
+#[derive(Clone, Copy, Debug, PartialEq, Eq)]
+pub struct Shape {
+    pub width: usize,
+    pub height: usize,
+    pub layout: u8,
+}
+
+// A frame's settings, which do not turn.
+#[derive(Clone, Copy, Debug, PartialEq, Eq)]
 pub struct Settings {
     pub rounds: u8,
     pub threshold: u16,
@@ -19,6 +25,7 @@ pub struct Settings {
 
 impl Settings {
     // How many rounds are to be run.
+    #[tactic(auto, unfolding(crate::specs::Settings::rounds_of))]
     pub fn rounds_to_run(self) -> u8
         ensures { result ≡ rounds_of self }
     {
@@ -26,6 +33,7 @@ impl Settings {
     }
 
     // The ceiling of the samples and of the threshold.
+    #[tactic(auto, unfolding(crate::specs::Settings::ceiling_of))]
     pub fn ceiling(self) -> u16
         ensures { result ≡ ceiling_of self }
     {
@@ -33,87 +41,133 @@ impl Settings {
     }
 }
 
-// What a call answers that hands back nothing beside.
-#[derive(Clone, Copy)]
-pub enum Answer {
-    Accepted,
-    Refused(u32),
+// Why a call refuses: the question that it answers no. Document 01 and 02 number them.
+#[derive(Clone, Copy, Debug, PartialEq, Eq)]
+pub enum Refusal {
+    // 1 and 2: of a frame, a plane or a window's frame
+    Width,
+    Height,
+    // 3 to 5
+    Layout,
+    Rounds,
+    Threshold,
+    // 6: what is given has exactly width · height numbers
+    GivenLength,
+    // 7: and what is filled
+    FilledLength,
+    // 8: the work buffer has 8 · width · height
+    WorkLength,
+    // 9 and 10: samples of a mosaic, and of planes that are given, within the ceiling
+    Sample,
+    PlaneSample,
+    // 11: the store has 12 bytes
+    StoreLength,
+    // 12 and 13: the distance back is the packet's, and lies within the store
+    Distance,
+    DistanceOutside,
+    // 14: the buffer is long enough for the packet
+    PacketRoom,
+    // 15: values in the bank's range
+    BankValue,
+    // 16: a turn is 0 to 7
+    Turn,
+    // 17: the program's input is short enough
+    ProgramInput,
+    // 18: the wide work buffer of two levels
+    WideWorkLength,
+    // 19: the spot's window lies inside
+    Window,
 }
 
-impl Answer {
-    // Document 01's number of a refusal, or 0.
+impl Refusal {
+    // Document 01's number of it.
     pub fn number(self) -> u32
-        ensures { result ≡ number_of_answer self }
+        ensures { result ≡ refusal_number self }
     {
         match self {
-            Answer::Accepted => 0,
-            Answer::Refused(number) => number,
+            Refusal::Width => 1,
+            Refusal::Height => 2,
+            Refusal::Layout => 3,
+            Refusal::Rounds => 4,
+            Refusal::Threshold => 5,
+            Refusal::GivenLength => 6,
+            Refusal::FilledLength => 7,
+            Refusal::WorkLength => 8,
+            Refusal::Sample => 9,
+            Refusal::PlaneSample => 10,
+            Refusal::StoreLength => 11,
+            Refusal::Distance => 12,
+            Refusal::DistanceOutside => 13,
+            Refusal::PacketRoom => 14,
+            Refusal::BankValue => 15,
+            Refusal::Turn => 16,
+            Refusal::ProgramInput => 17,
+            Refusal::WideWorkLength => 18,
+            Refusal::Window => 19,
         }
     }
 }
 
+// An answer's number: a refusal's, or 0.
+pub fn number<T: Drop>(answer: Result<T, Refusal>) -> u32
+    ensures { result ≡ number_of answer }
+{
+    match answer {
+        Ok(_) => 0,
+        Err(refusal) => refusal.number(),
+    }
+}
+
 // Questions 1 and 2, from `least` on.
-pub fn sizes(least: usize, width: usize, height: usize) -> u32
-    ensures { result ≡ ask (size_questions least width height) }
+pub fn ask_sizes(least: usize, width: usize, height: usize) -> Result<(), Refusal>
+    ensures { number_of result ≡ ask (size_questions least width height) }
 {
     if width < least {
-        return 1;
+        return Err(Refusal::Width);
     }
     if 2048 < width {
-        return 1;
+        return Err(Refusal::Width);
     }
     if height < least {
-        return 2;
+        return Err(Refusal::Height);
     }
     if 2048 < height {
-        return 2;
+        return Err(Refusal::Height);
     }
-    0
+    Ok(())
 }
 
 // Questions 1, 2 and 3 of a frame.
-pub fn shape(width: usize, height: usize, layout: u8) -> u32
-    ensures { result ≡ ask (shape_questions width height layout) }
+pub fn ask_shape(shape: Shape) -> Result<(), Refusal>
+    ensures { number_of result ≡ ask (shape_questions shape.width shape.height shape.layout) }
 {
-    let number = sizes(2, width, height);
-    if number != 0 {
-        return number;
+    ask_sizes(2, shape.width, shape.height)?;
+    if 7 < shape.layout {
+        return Err(Refusal::Layout);
     }
-    if 7 < layout {
-        return 3;
-    }
-    0
+    Ok(())
 }
 
 // Questions 4 and 5.
-pub fn settings_refusal(given: Settings) -> u32
-    ensures { result ≡ ask (settings_questions given) }
+pub fn ask_settings(given: Settings) -> Result<(), Refusal>
+    ensures { number_of result ≡ ask (settings_questions given) }
 {
     if 64 < given.rounds {
-        return 4;
+        return Err(Refusal::Rounds);
     }
     let top = given.ceiling();
     if top < given.threshold {
-        return 5;
+        return Err(Refusal::Threshold);
     }
-    0
+    Ok(())
 }
 
 // Questions 1 to 5 of a frame that is to be finished.
-pub fn frame(width: usize, height: usize, layout: u8, given: Settings) -> u32
-    ensures { result ≡ ask (frame_questions width height layout given) }
+pub fn ask_frame(shape: Shape, given: Settings) -> Result<(), Refusal>
+    ensures { number_of result ≡ ask (frame_questions shape.width shape.height shape.layout given) }
 {
-    let number = shape(width, height, layout);
-    if number != 0 {
-        return number;
-    }
-    settings_refusal(given)
-}
-
-pub fn larger(a: u16, b: u16) -> u16
-    ensures { result ≡ max a b }
-{
-    if a < b { b } else { a }
+    ask_shape(shape)?;
+    ask_settings(given)
 }
 
 // Question 9: whether no sample is above `top`. A running maximum, which vectorises; a test at each sample does not.
@@ -121,15 +175,14 @@ pub fn samples_within(top: u16, samples: &[u16]) -> bool
     ensures { result ≡ all_at_most top samples.now }
 {
     let mut most = 0;
-    let mut i = 0;
-    while i < samples.len() {
-        most = larger(most, samples[i]);
-        i += 1;
+    for sample in samples {
+        most = most.max(*sample);
     }
     most <= top
 }
 
 // Whether a frame of this layout has two levels.
+#[tactic(auto, unfolding(planes::specs::Layout::two_levels))]
 pub fn two_levels(layout: u8) -> bool
     ensures { result ≡ two_levels layout }
 {
@@ -147,74 +200,64 @@ fn wide_enough(two: bool, count: usize, room: usize) -> bool
     8 * count <= room
 }
 
+// How many numbers the buffers hold that a call is lent beside the mosaic.
+#[derive(Clone, Copy)]
+pub struct Rooms {
+    pub red: usize,
+    pub green: usize,
+    pub blue: usize,
+    pub work: usize,
+    pub wide: usize,
+}
+
 // Questions 6, 7, 8, 18 and 9, where a plane has `count` samples and `top` is the ceiling.
-fn buffers_refusal(
+fn ask_buffers(
     top: u16,
     two: bool,
     count: usize,
     mosaic: &[u16],
-    red_room: usize,
-    green_room: usize,
-    blue_room: usize,
-    room: usize,
-    wide_room: usize,
-) -> u32
+    room: Rooms,
+) -> Result<(), Refusal>
     requires { count ≤ 4194304 }
-    ensures { result ≡ ask (buffer_questions top two count mosaic.now (rooms red_room green_room blue_room room wide_room)) }
+    ensures { number_of result ≡ ask (buffer_questions top two count mosaic.now (rooms_in room)) }
 {
     if mosaic.len() != count {
-        return 6;
+        return Err(Refusal::GivenLength);
     }
-    if red_room != count {
-        return 7;
+    if room.red != count {
+        return Err(Refusal::FilledLength);
     }
-    if green_room != count {
-        return 7;
+    if room.green != count {
+        return Err(Refusal::FilledLength);
     }
-    if blue_room != count {
-        return 7;
+    if room.blue != count {
+        return Err(Refusal::FilledLength);
     }
     let needed = 8 * count;
-    if room < needed {
-        return 8;
+    if room.work < needed {
+        return Err(Refusal::WorkLength);
     }
-    if !wide_enough(two, count, wide_room) {
-        return 18;
+    if !wide_enough(two, count, room.wide) {
+        return Err(Refusal::WideWorkLength);
     }
     if !samples_within(top, mosaic) {
-        return 9;
+        return Err(Refusal::Sample);
     }
-    0
+    Ok(())
 }
 
 // Questions 1 to 9, and 18 after 8.
-pub fn lent_refusal(
-    width: usize,
-    height: usize,
-    layout: u8,
+pub fn ask_lent(
+    shape: Shape,
     settings: Settings,
     mosaic: &[u16],
-    red_room: usize,
-    green_room: usize,
-    blue_room: usize,
-    room: usize,
-    wide_room: usize,
-) -> u32
-    ensures { result ≡ ask (lent_questions (frame width height layout mosaic.now) settings (rooms red_room green_room blue_room room wide_room)) }
+    room: Rooms,
+) -> Result<(), Refusal>
+    ensures { number_of result ≡ ask (lent_questions (framed shape mosaic.now) settings (rooms_in room)) }
 {
-    let number = frame(width, height, layout, settings);
-    if number != 0 {
-        return number;
-    }
-    buffers_refusal(
-        settings.ceiling(),
-        two_levels(layout),
-        width * height,
-        mosaic,
-        red_room,
-        green_room,
-        blue_room,
-        room,
-        wide_room,
-    )
+    ask_frame(shape, settings)?;
+    let top = settings.ceiling();
+    let two = two_levels(shape.layout);
+    let count = shape.width * shape.height;
+    ask_buffers(top, two, count, mosaic, room)
 }

@@ -9,7 +9,7 @@ use Rattle.reader.specs.declared.Packet.{Packet}
 
 -- all fields 0
 abbrev pub no_fields : Fields
-no_fields = record { width = 0; height = 0; layout = 0; settings = record { rounds = 0; threshold = 0 } }
+no_fields = record { shape = record { width = 0; height = 0; layout = 0 }; settings = record { rounds = 0; threshold = 0 } }
 
 -- the fields, all 0 where the packet is refused
 abbrev pub fields_read : List ℕ → Fields

@@ -4,11 +4,12 @@
 ghost use Rattle.std.specs.Prelude.{◌≡◌};
 ghost use Rattle.reader.specs.Reader.{fields_read, PacketRead};
 
-use packet::{Fields, ReadPacket};
-use questions::Settings;
+use packet::Fields;
+use questions::{Settings, Shape};
 
 // What the reader answers: the refusal number, 0 for a sound packet; the packet's fields; and the part of the store that holds its samples, two bytes
-// each. Where the packet is refused, every field is 0 and the part is empty.
+// each. Where the packet is refused, every field is 0 and the part is empty. No Result: `read` promises fields and part of a refused packet too
+// (`PacketRead`).
 #[derive(Clone, Copy)]
 pub struct Packet<'a> {
     pub number: u32,
@@ -21,11 +22,13 @@ fn fields_read(store: &[u8]) -> Fields
     ensures { result ≡ fields_read store.now }
 {
     match packet::read_packet(store) {
-        ReadPacket::Sound(fields) => fields,
-        ReadPacket::Refused(_) => Fields {
-            width: 0,
-            height: 0,
-            layout: 0,
+        Ok(fields) => fields,
+        Err(_) => Fields {
+            shape: Shape {
+                width: 0,
+                height: 0,
+                layout: 0,
+            },
             settings: Settings {
                 rounds: 0,
                 threshold: 0,

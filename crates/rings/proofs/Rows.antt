@@ -1,5 +1,5 @@
 -- The rows in lists: where a row has room, and a row of a level's joined parts as the calls leave it. Assumes nothing.
-use mathlib.Core.Path.{◌≡◌, refl, sym, ◌∙◌, ap, subst}
+use mathlib.Core.Path.{◌≡◌, sym, ◌∙◌, ap, subst}
 use mathlib.Core.List.{List}
 use Prim.Native.Nat.{ℕ, ◌+◌, ◌*◌, ◌%◌, ◌≤◌, ◌<◌}
 use native.Mathlib.Nat.{mod-lt, mul_comm, mul-le-mul_right, le_trans}
@@ -8,9 +8,6 @@ use lib.Dec.{T}
 use lib.IntN.{ℤ, pos, nat_abs, ◌+ℤ◌, ◌-ℤ◌}
 use lib.ListN.{length}
 use lib.Signed.{non_neg}
-use mir.Syntax.{w64}
-use mir.Val.{Fits}
-use borrow.Author.Rules.{scaled_Fits}
 use Rattle.integers.specs.Lists.{overwrite}
 use Rattle.integers.proofs.Lists.{overwrite_in, overwrite_cong}
 use Rattle.planes.specs.Lists.{value}
@@ -18,7 +15,7 @@ use Rattle.planes.proofs.Planes.{row_room}
 use Rattle.filters.specs.Bank.{Taps, along, low_split, high_split, high_join}
 use Rattle.filters.proofs.Ranges.{gain}
 use Rattle.lines.specs.Lines.{Run, three}
-use Rattle.lines.proofs.Lines.{run_wider, run_laid, three_range}
+use Rattle.lines.proofs.Lines.{run_laid, three_range}
 use Rattle.projection.specs.Fast.{outer_part, crossed_along, low_parts, high_parts, apart_row, together_row}
 use Rattle.projection.proofs.Parts.{crossed_joins, along_inside, outer_inside, crossed_inside, four, outer_part_range, outer_apart_range, outer_together_range}
 use Rattle.details.specs.Details.{from_place}
@@ -31,9 +28,6 @@ use Rattle.rings.specs.Rows.{slot, slot_of, ring_line, RingRows}
 -- in slot i of n, which the machine can count to
 pub slot_inside : (i n w l : ℕ) → i < n → n * w ≤ l → i * w + w ≤ l
 slot_inside i n w l h fit = omega (arith, row_room w n i h, mul_comm w n)
-
-pub slot_fits : (i w : ℕ) → i < 9 → w ≤ 2048 → Fits w64 (i * w)
-slot_fits i w h k = scaled_Fits i 9 w h (omega arith)
 
 pub slot_room : (n w q : ℕ) → 1 ≤ n → slot n w q + w ≤ n * w
 slot_room n w q some = slot_inside (q % n) n w (n * w) (mod-lt q some) (omega arith)
@@ -112,12 +106,6 @@ module _ (limit : ℤ) (sign : T (non_neg limit)) (g : Given) (v : Level) (r : �
 
 -- ---- from the slots that code found
 module _ (g : Given) (v : Level) (r : ℕ) (ring : List ℤ) {a b : ℕ} (is_a : a ≡ slot_of v.source g (pos r -ℤ pos v.spacing)) (is_b : b ≡ slot_of v.source g (pos r +ℤ pos v.spacing)) where
-  pub ring_runs : RingRows g v ring r → Run 134217728 ring a g.width × Run 134217728 ring (slot v.source g.width r) g.width × Run 134217728 ring b g.width
-  ring_runs rows = (at is_a rows.above, at refl rows.here, at is_b rows.below)
-    where
-      at : {o p : ℕ} → o ≡ p → Run band_reach ring p g.width → Run 134217728 ring o g.width
-      at {o} {p} q run = subst (λ (i : ℕ). Run 134217728 ring i g.width) (sym q) (run_wider (omega arith) run)
-
   pub line_laid : (t : Taps) (l : List ℤ) {line : List ℤ} → line ≡ overwrite l v.spacing g.width (three t ring a (slot v.source g.width r) b) → line ≡ overwrite l v.spacing g.width (ring_line t g v ring r)
   unfolding ring_line
   line_laid t l q = q ∙ (λ m. overwrite l v.spacing g.width (three t ring (is_a m) (slot v.source g.width r) (is_b m)))

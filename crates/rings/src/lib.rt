@@ -12,7 +12,20 @@ ghost use Rattle.rings.specs.Planes.{reach};
 ghost use Rattle.rings.specs.Rows.{slot, slot_of, row_at, guide_at, five_slots, difference_row, Sound, ring_line, RingRows, ring_apart, ring_together};
 ghost use Rattle.rings.specs.Stages.{reached, Working, ring_row_laid, AsLong};
 
-// What a projection is given, beside the two lists.
+// How many places the lines of a sweep have, with the places beside them, and its rings of three, five, seven and nine rows. More than they need: lines some
+// multiple of 4,096 bytes apart would hinder each other in the machine's loads and stores.
+pub const LINE: usize = 2168;
+
+pub const THREE_ROWS: usize = 6264;
+
+pub const FIVE_ROWS: usize = 10360;
+
+pub const SEVEN_ROWS: usize = 14456;
+
+pub const NINE_ROWS: usize = 18552;
+
+// What a projection is given, beside the two lists. That the sizes are in range stays in contracts: `given` in `working_plane/specs` makes one of any numbers,
+// and with that fact in it would have to prove it.
 #[derive(Clone, Copy)]
 pub struct Given {
     // the plane's first place; its rows follow each other
@@ -81,13 +94,7 @@ pub fn five_slots(given: Given, n: usize, d: usize, r: usize) -> lines::Five
 pub fn done(t: usize, lag: usize, height: usize) -> usize
     ensures { result ≡ reached lag height t }
 {
-    if t < lag {
-        return 0;
-    }
-    if height < t - lag {
-        return height;
-    }
-    t - lag
+    t.saturating_sub(lag).min(height)
 }
 
 // Row r of the differences, into its slot of the ring.
@@ -121,7 +128,8 @@ pub fn difference_stage(own: &[i32], guide: &[u16], given: Given, t: usize, ring
 }
 
 // Row r of a level's joined parts, into its slots, from three rows of its source. `low` keeps the row's line that is low along the columns,
-// padded; the other four lines are scratch.
+// padded; the other four lines are scratch. Lent lists go one by one (docs/DECISIONS.md, "Lent lists").
+#[inline(always)]
 fn parts_row(
     source: &[i32],
     given: Given,
@@ -162,7 +170,10 @@ fn parts_row(
 }
 
 // The stage of a level: a row of its joined parts. Where it made one, `low` has the row's line that is low along the columns,
-// padded; the other four lines are scratch.
+// padded; the other four lines are scratch. Inlined, so that each sweep has the level's numbers as constants.
+//
+// Lent lists go one by one, of any length that is enough (docs/DECISIONS.md, "Lent lists").
+#[inline(always)]
 pub fn parts_stage(
     source: &[i32],
     given: Given,

@@ -1,5 +1,5 @@
 -- The laws of the rounds call: what an accepted call knows, and what it leaves. Assumes nothing.
-use mathlib.Core.Path.{◌≡◌, sym, ◌∙◌, ap}
+use mathlib.Core.Path.{◌≡◌, refl, sym, ◌∙◌, ap}
 use mathlib.Core.Bool.{true}
 use mathlib.Core.List.{List, ◌++◌}
 use Prim.Native.Nat.{ℕ, ◌+◌, ◌*◌, ◌≤◌, ◌<◌}
@@ -26,7 +26,7 @@ use Rattle.rounds.specs.Calls.{planes_questions, rounds_questions, rounds_lists,
 use Rattle.rounds.specs.Colours.{red_of, blue_of}
 
 -- ---- what an accepted call knows
-module _ (f : Frame) (s : Settings) (before : Lent) (n : ℕ) (e : n ≡ ask (rounds_questions f s before)) (z : n ≡ 0) where
+module _ (f : Frame) (s : Settings) (before : Lent) (e : 0 ≡ ask (rounds_questions f s before)) where
   abbrev count : ℕ
   count = f.width * f.height
 
@@ -34,7 +34,7 @@ module _ (f : Frame) (s : Settings) (before : Lent) (n : ℕ) (e : n ≡ ask (ro
   known : AllYes (frame_questions f.width f.height f.layout s) × AllYes (buffer_questions (ceiling_of s) (two_levels f.layout) count f.samples (rooms_of before) ++ planes_questions (ceiling_of s) before.three)
   known =
       all_yes_split (frame_questions f.width f.height f.layout s) (buffer_questions (ceiling_of s) (two_levels f.layout) count f.samples (rooms_of before) ++ planes_questions (ceiling_of s) before.three)
-      (all_yes (rounds_questions f s before) tt n e z)
+      (all_yes (rounds_questions f s before) tt 0 e refl)
 
   pub rounds_workable : Workable f.width f.height f.samples before.three.green (length before.work)
   rounds_workable =

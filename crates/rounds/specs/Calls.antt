@@ -6,7 +6,6 @@ use Rattle.questions.specs.Settings.{ceiling_of}
 use Rattle.questions.specs.Questions.{Question, question, all_at_most}
 use Rattle.questions.specs.Lent.{Lent, rooms_of, lent_questions}
 use Rattle.questions.specs.Calls.{Call, plain_call}
-use Rattle.questions.specs.declared.Answer.{Answer}
 use Rattle.questions.specs.declared.Settings.{Settings}
 use Rattle.work_buffer.specs.Buffer.{zeroed, wide_zeroed}
 use Rattle.rounds.specs.Rounds.{rounds}
@@ -42,5 +41,5 @@ with_rounds f s before = record {
 }
 
 -- the rounds call, given frame f, settings s, and planes and work buffers that held `before`
-abbrev pub rounds_call : Frame → Settings → Lent → Call Answer Lent
+abbrev pub rounds_call : Frame → Settings → Lent → Call (Unit {0}) Lent
 rounds_call f s before = plain_call (rounds_questions f s before) (with_rounds f s before) before

@@ -13,7 +13,7 @@ use Rattle.filters.specs.Bank.{along, low_join}
 use Rattle.filters.proofs.Ranges.{gain}
 use Rattle.lines.specs.declared.Five.{Five}
 use Rattle.lines.specs.Lines.{Run, Runs, five}
-use Rattle.lines.proofs.Lines.{run_wider, five_range}
+use Rattle.lines.proofs.Lines.{five_range}
 use Rattle.projection.proofs.Parts.{along_inside}
 use Rattle.details.specs.Details.{from_place, Crossing, crossed}
 use Rattle.nested_floor.specs.NestedFloor.{settled_two, whole, rest}
@@ -37,10 +37,6 @@ module _ (w : ℕ) (l : List ℤ) (room : 2 + w ≤ length l) where
   low_joined some f x y {v} z {line} e k = along_inside 1 w some low_join (from_place 2 line) (crossed_of f x y v) (laid_at l 2 w _ e room) k ∙ (λ j. along low_join 1 w (crossed_of f x y (z j)) k)
 
 -- ---- a row settled
--- five runs within a larger bound too
-pub runs_wider : {m most : ℕ} → m ≤ most → {l : List ℤ} {v : Five} {n : ℕ} → Runs m l v n → Runs most l v n
-runs_wider h r = record { first = run_wider h r.first; second = run_wider h r.second; third = run_wider h r.third; fourth = run_wider h r.fourth; fifth = run_wider h r.fifth }
-
 module _ (g : Given) (rests : List ℤ) {v : Five} (r : Runs 174762 rests v g.width) (l : List ℤ) (room : 0 + g.width ≤ length l) {line : List ℤ} (e : line ≡ overwrite l 0 g.width (five low_join rests v)) where
   pub rests_run : Run 2097152 line 0 g.width
   unfolding gain low_join

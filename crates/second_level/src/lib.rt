@@ -23,7 +23,7 @@ pub fn band_stage(low: &[i32], given: rings::Given, t: usize, band: &mut [i32])
     }
 }
 
-// A row of both levels' joined parts merged, and of the rests. The two lines are scratch.
+// A row of both levels' joined parts merged, and of the rests. The two lines are scratch. Lent lists go one by one (docs/DECISIONS.md, "Lent lists").
 pub fn merged_stage(
     apart2: &[i32],
     together2: &[i32],
@@ -50,8 +50,15 @@ pub fn merged_stage(
     if r < rings::done(t + 1, 7, given.height) {
         let starts = rings::five_slots(given, 9, 2, r);
         let n = given.width;
-        merging::cross_whole(apart2, together2, starts, n, whole);
-        merging::cross_rest(apart2, together2, starts, n, rest);
+        merging::cross(
+            apart2,
+            together2,
+            starts,
+            n,
+            whole,
+            nested_floor::whole_part,
+        );
+        merging::cross(apart2, together2, starts, n, rest, nested_floor::rest_part);
         let from = r % 7 * n;
         let at = r % 5 * n;
         merging::merge_along(
@@ -60,7 +67,7 @@ pub fn merged_stage(
     }
 }
 
-// A row of the plane, from five rows of the merged parts and of the rests. The line is scratch.
+// A row of the plane, from five rows of the merged parts and of the rests. The line is scratch. Lent lists go one by one (docs/DECISIONS.md, "Lent lists").
 pub fn settled_stage(
     own: &mut [i32],
     given: rings::Given,

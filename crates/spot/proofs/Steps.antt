@@ -2,12 +2,10 @@
 use mathlib.Core.Path.{◌≡◌, refl, sym, ap, ◌∙◌}
 use mathlib.Core.Bool.{Bool, true, false, cond}
 use Rattle.spot.specs.Spot.{spot_of, smooth_spot, is_lit, kept, lit_spot, next_kept, reading}
-use Rattle.spot.specs.Calls.{accepted}
 use Rattle.spot.specs.declared.Spot.{Spot}
 use Rattle.spot.specs.declared.Sums.{Sums}
 use Rattle.spot.specs.declared.Kept.{Kept}
 use Rattle.spot.specs.declared.Reading.TheVariants.{Starting, Dark, Steady}
-use Rattle.spot.specs.declared.SpotAnswer.TheVariants.{Accepted}
 
 module _ (k : Kept) (s : Sums) where
   -- ---- a lit frame's spot: after a lit frame, and as the first
@@ -17,11 +15,20 @@ module _ (k : Kept) (s : Sums) where
   pub first-spot : k.lit ≡ false → {new : Spot} → new ≡ spot_of s → new ≡ lit_spot k s
   first-spot h p = p ∙ sym (rw (h) refl)
 
-  -- ---- the answer to a frame: a lit one, and an unlit one
-  pub lit_accepted : is_lit s ≡ true → {new : Spot} → new ≡ lit_spot k s → Accepted (Steady new) (kept new true) ≡ accepted k s
-  unfolding next_kept reading
-  lit_accepted h e = (λ i. Accepted (Steady (e i)) (kept (e i) true)) ∙ sym (rw (h) refl)
+  -- ---- what is kept after a lit frame, and its reading
+  pub lit_kept : is_lit s ≡ true → {new : Spot} → new ≡ lit_spot k s → kept new true ≡ next_kept k s
+  unfolding next_kept
+  lit_kept h e = (λ i. kept (e i) true) ∙ sym (rw (h) refl)
 
-  pub unlit_accepted : is_lit s ≡ false → (b : Bool) → k.lit ≡ b → Accepted (cond b Dark Starting) k ≡ accepted k s
-  unfolding next_kept reading
-  unlit_accepted h b e = sym (rw (h, e) refl)
+  pub lit_reading : is_lit s ≡ true → {new : Spot} → new ≡ lit_spot k s → Steady new ≡ reading k s
+  unfolding reading
+  lit_reading h e = (λ i. Steady (e i)) ∙ sym (rw (h) refl)
+
+  -- ---- and of an unlit one
+  pub unlit_kept : is_lit s ≡ false → k ≡ next_kept k s
+  unfolding next_kept
+  unlit_kept h = sym (rw (h) refl)
+
+  pub unlit_reading : is_lit s ≡ false → (b : Bool) → k.lit ≡ b → cond b Dark Starting ≡ reading k s
+  unfolding reading
+  unlit_reading h b e = sym (rw (h, e) refl)

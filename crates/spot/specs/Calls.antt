@@ -1,14 +1,14 @@
 -- The call that reads a spot: what it asks, and what it answers then. Assumes nothing.
-use Rattle.std.specs.Prelude.{◌≡◌, List, [], ◌∷◌, ◌++◌, ℕ, ◌*◌, ◌≤◌, eqb}
+use Rattle.std.specs.Prelude.{◌≡◌, Result, List, [], ◌∷◌, ◌++◌, ℕ, ◌*◌, ◌≤◌, eqb}
 use Rattle.planes.specs.Planes.{Planes, lengths, plane_of}
 use Rattle.questions.specs.Questions.{Question, question, ask, size_questions}
-use Rattle.questions.specs.Calls.{Call, Result}
+use Rattle.questions.specs.declared.Refusal.{Refusal}
+use Rattle.questions.specs.Calls.{Call, Outcome}
 use Rattle.window.specs.Window.{window_sum, window_inside, largest_sum, WindowRoom}
 use Rattle.spot.specs.Spot.{next_kept, reading}
 use Rattle.spot.specs.declared.Sums.{Sums}
 use Rattle.spot.specs.declared.Kept.{Kept}
-use Rattle.spot.specs.declared.SpotAnswer.{SpotAnswer}
-use Rattle.spot.specs.declared.SpotAnswer.TheVariants as spot_answer
+use Rattle.spot.specs.declared.Reading.{Reading}
 
 -- ---- what is given: a frame's width, height and three planes, the window's first row and column, and what was kept
 pub record SpotGiven : Type 0 where
@@ -44,25 +44,11 @@ window_sums width three row column = record {
 abbrev pub sums_of : SpotGiven → Sums
 sums_of g = window_sums g.width g.three g.row g.column
 
--- an answer's number, and what is kept then
-abbrev pub number_of_spot : SpotAnswer → ℕ
-number_of_spot (spot_answer.Accepted reading kept) = 0
-number_of_spot (spot_answer.Refused number kept) = number
-
-abbrev pub kept_of_spot : SpotAnswer → Kept
-kept_of_spot (spot_answer.Accepted reading kept) = kept
-kept_of_spot (spot_answer.Refused number kept) = kept
-
--- the answer to a frame with sums s
-abbrev pub accepted : Kept → Sums → SpotAnswer
-accepted k s = spot_answer.Accepted (reading k s) (next_kept k s)
-
 -- the call: what it leaves is what is kept
-abbrev pub spot_call : SpotGiven → Call SpotAnswer Kept
+abbrev pub spot_call : SpotGiven → Call Reading Kept
 spot_call g = record {
   questions = questions_of g;
-  number_of = number_of_spot;
-  answer = accepted g.kept (sums_of g);
+  answer = reading g.kept (sums_of g);
   new = next_kept g.kept (sums_of g);
   old = g.kept;
 }
@@ -73,9 +59,9 @@ pub record Small (s : Sums) : Type 0 where
   pub green : s.green ≤ largest_sum
   pub blue : s.blue ≤ largest_sum
 
--- its answer r, which has in it what is kept, accepted or refused; and the sums of an accepted frame are small
-pub record SpotResult (g : SpotGiven) (r : SpotAnswer) : Type 0 where
-  pub result : Result (spot_call g) r (kept_of_spot r)
+-- its answer r, and what is kept after it, accepted or refused; and the sums of an accepted frame are small
+pub record SpotResult (g : SpotGiven) (r : Result Reading Refusal) (after : Kept) : Type 0 where
+  pub result : Outcome (spot_call g) r after
   pub small : ask (questions_of g) ≡ 0 → Small (sums_of g)
 
 -- ---- inner: what the sums of three planes ask and promise

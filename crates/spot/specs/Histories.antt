@@ -1,28 +1,29 @@
 -- Lists of calls that read a spot, each given what the one before it handed back. Assumes nothing.
-use Rattle.std.specs.Prelude.{◌≡◌, Bool, true, false, ◌||◌, List, [], ◌∷◌}
+use Rattle.std.specs.Prelude.{◌≡◌, Bool, true, false, ◌||◌, Result, List, [], ◌∷◌}
+use Rattle.questions.specs.declared.Refusal.{Refusal}
 use Rattle.questions.specs.Calls.{if_accepted}
 use Rattle.spot.specs.Spot.{start, kept, spot_of, is_lit}
-use Rattle.spot.specs.Calls.{SpotGiven, questions_of, sums_of, kept_of_spot, SpotResult}
+use Rattle.spot.specs.Calls.{SpotGiven, questions_of, sums_of, SpotResult}
 use Rattle.spot.specs.declared.Sums.{Sums}
 use Rattle.spot.specs.declared.Kept.{Kept}
 use Rattle.spot.specs.declared.Reading.{Reading}
 use Rattle.spot.specs.declared.Reading.TheVariants.{Starting, Dark, Steady}
-use Rattle.spot.specs.declared.SpotAnswer.{SpotAnswer}
 
--- what a call was given, and what it answered
+-- what a call was given, what it answered, and what was kept after it
 pub record SpotRun : Type 0 where
   pub given : SpotGiven
-  pub answer : SpotAnswer
+  pub answer : Result Reading Refusal
+  pub after : Kept
 
 -- a list of calls that ran, the first of them given k
 abbrev pub SpotHistory : Kept → List SpotRun → Type 0
 SpotHistory k [] = Unit
-SpotHistory k (run ∷ runs) = (run.given.kept ≡ k) × SpotResult run.given run.answer × SpotHistory (kept_of_spot run.answer) runs
+SpotHistory k (run ∷ runs) = (run.given.kept ≡ k) × SpotResult run.given run.answer run.after × SpotHistory run.after runs
 
 -- what is kept after them
 abbrev pub last_kept : Kept → List SpotRun → Kept
 last_kept k [] = k
-last_kept k (run ∷ runs) = last_kept (kept_of_spot run.answer) runs
+last_kept k (run ∷ runs) = last_kept run.after runs
 
 -- ---- lit frames
 -- whether a call's frame was lit: the call was accepted, and the blue sum is above 0

@@ -4,8 +4,11 @@
 ghost use Rattle.std.specs.Prelude.{◌≡◌, length};
 ghost use Rattle.planes.specs.Planes.{planes};
 ghost use Rattle.questions.specs.Questions.{ask};
-ghost use Rattle.spot.specs.Spot.{start, spot_of, smooth_spot, lit_spot};
-ghost use Rattle.spot.specs.Calls.{spot_questions, accepted, spot_given, PlanesRoom, PlaneSums, SpotResult};
+ghost use Rattle.questions.specs.Refusals.{number_of};
+ghost use Rattle.spot.specs.Spot.{start, spot_of, smooth_spot, lit_spot, next_kept, reading};
+ghost use Rattle.spot.specs.Calls.{spot_questions, spot_given, PlanesRoom, PlaneSums, SpotResult};
+
+use questions::Refusal;
 
 // A spot: three sums as floats, as they stand or smoothed.
 #[derive(Clone, Copy)]
@@ -23,7 +26,8 @@ pub struct Sums {
     pub blue: u32,
 }
 
-// What is kept between frames: the spot, and whether a lit frame has come.
+// What is kept between frames: the spot, and whether a lit frame has come. No Option: document 02 keeps three zeros until then, and `read_spot` keeps whatever
+// floats it is given so (`SpotResult`, `spot_unchanged`).
 #[derive(Clone, Copy)]
 pub struct Kept {
     pub spot: Spot,
@@ -40,22 +44,15 @@ pub enum Reading {
     Steady(Spot),
 }
 
-// What the call answers: the reading, or a refusal's number; and what is kept now.
-#[derive(Clone, Copy)]
-pub enum SpotAnswer {
-    Accepted(Reading, Kept),
-    Refused(u32, Kept),
-}
-
 impl Sums {
     // The sums as floats, exactly.
     fn spot(self) -> Spot
         ensures { result ≡ spot_of self }
     {
         Spot {
-            red: self.red as f64,
-            green: self.green as f64,
-            blue: self.blue as f64,
+            red: f64::from(self.red),
+            green: f64::from(self.green),
+            blue: f64::from(self.blue),
         }
     }
 }
@@ -74,7 +71,7 @@ impl Spot {
 }
 
 impl Kept {
-    // Three zeros, and no lit frame.
+    // Three zeros, and no lit frame. `Default` would be a second name for it.
     pub fn start() -> Self
         ensures { result ≡ start }
     {
@@ -100,23 +97,25 @@ impl Kept {
         new
     }
 
-    // The answer to a frame with these sums.
-    fn next(self, sums: Sums) -> SpotAnswer
-        ensures { result ≡ accepted self sums }
+    // The reading of a frame with these sums, and what is kept after it.
+    fn next(&mut self, sums: Sums) -> Reading
+        ensures reading { result ≡ reading self.old sums }
+        ensures kept { self.new ≡ next_kept self.old sums }
     {
         if 0 < sums.blue {
             let spot = self.lit_spot(sums);
-            return SpotAnswer::Accepted(Reading::Steady(spot), Kept { spot, lit: true });
+            *self = Kept { spot, lit: true };
+            return Reading::Steady(spot);
         }
         if self.lit {
-            return SpotAnswer::Accepted(Reading::Dark, self);
+            return Reading::Dark;
         }
-        SpotAnswer::Accepted(Reading::Starting, self)
+        Reading::Starting
     }
 }
 
-// Questions 1, 2, 6 of each plane, 19: the number of the first one answered no, or 0.
-fn spot_refusal(
+// Questions 1, 2, 6 of each plane, 19.
+fn ask_spot(
     width: usize,
     height: usize,
     red: usize,
@@ -124,27 +123,24 @@ fn spot_refusal(
     blue: usize,
     row: usize,
     column: usize,
-) -> u32
-    ensures { result ≡ ask (spot_questions width height (planes red green blue) row column) }
+) -> Result<(), Refusal>
+    ensures { number_of result ≡ ask (spot_questions width height (planes red green blue) row column) }
 {
-    let number = questions::sizes(2, width, height);
-    if number != 0 {
-        return number;
-    }
+    questions::ask_sizes(2, width, height)?;
     let count = width * height;
     if red != count {
-        return 6;
+        return Err(Refusal::GivenLength);
     }
     if green != count {
-        return 6;
+        return Err(Refusal::GivenLength);
     }
     if blue != count {
-        return 6;
+        return Err(Refusal::GivenLength);
     }
     if !window::inside(width, height, row, column) {
-        return 19;
+        return Err(Refusal::Window);
     }
-    0
+    Ok(())
 }
 
 // The window's sums of three planes.
@@ -166,7 +162,9 @@ fn plane_sums(
     }
 }
 
-// The spot of a frame's three planes, over the window whose first row and column are told, after what was kept. Refused, that stays.
+// The reading of a frame's three planes, over the window whose first row and column are told, after what was kept; that is what is kept now. Refused, it
+// stays as it was.
+// Lent lists go one by one (docs/DECISIONS.md, "Lent lists").
 pub fn read_spot(
     width: usize,
     height: usize,
@@ -175,11 +173,11 @@ pub fn read_spot(
     blue: &[u16],
     row: usize,
     column: usize,
-    kept: Kept,
-) -> SpotAnswer
-    ensures { SpotResult (spot_given width height (planes red.now green.now blue.now) row column kept) result }
+    kept: &mut Kept,
+) -> Result<Reading, Refusal>
+    ensures { SpotResult (spot_given width height (planes red.now green.now blue.now) row column kept.old) result kept.new }
 {
-    let refusal = spot_refusal(
+    ask_spot(
         width,
         height,
         red.len(),
@@ -187,9 +185,6 @@ pub fn read_spot(
         blue.len(),
         row,
         column,
-    );
-    if refusal != 0 {
-        return SpotAnswer::Refused(refusal, kept);
-    }
-    kept.next(plane_sums(width, red, green, blue, row, column))
+    )?;
+    Ok(kept.next(plane_sums(width, red, green, blue, row, column)))
 }

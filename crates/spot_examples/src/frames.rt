@@ -1,58 +1,59 @@
-// Frames of 40 by 36. Each function prints the answer to one call, and hands on what is kept.
-ghost use Rattle.std.specs.Prelude.{◌≡◌, length};
+// Frames of 40 by 36. Each function prints the answer to one call, and what is kept after it.
+ghost use Rattle.std.specs.Prelude.{◌≤◌};
 
+use crate::print;
 use spot::Kept;
-use std::io;
+use std::{array, io};
+
+const WIDTH: usize = 40;
+
+const HEIGHT: usize = 36;
+
+const SAMPLES: usize = WIDTH * HEIGHT;
 
 // Red, green and blue the same all over.
 pub(crate) fn flat(
     rt: &impl Print,
-    red: u16,
-    green: u16,
-    blue: u16,
+    colours: [u16; 3],
     row: usize,
     column: usize,
-    kept: Kept,
-) -> io::Result<Kept> {
-    let r = [red; 1440];
-    let g = [green; 1440];
-    let b = [blue; 1440];
-    crate::print::answer(rt, spot::read_spot(40, 36, &r, &g, &b, row, column, kept))
+    kept: &mut Kept,
+) -> io::Result<()> {
+    let [r, g, b] = colours.map(|sample| [sample; SAMPLES]);
+    print::answer(
+        rt,
+        spot::read_spot(WIDTH, HEIGHT, &r, &g, &b, row, column, kept),
+        kept,
+    )
 }
 
-// The green plane has one sample too few.
-pub(crate) fn short_green(rt: &impl Print, kept: Kept) -> io::Result<Kept> {
-    let r = [7; 1440];
-    let g = [8; 1439];
-    let b = [9; 1440];
-    crate::print::answer(rt, spot::read_spot(40, 36, &r, &g, &b, 0, 0, kept))
-}
-
-// A width of 41 is said, and the planes are as for 40.
-pub(crate) fn wider(rt: &impl Print, kept: Kept) -> io::Result<Kept> {
-    let r = [7; 1440];
-    let g = [8; 1440];
-    let b = [9; 1440];
-    crate::print::answer(rt, spot::read_spot(41, 36, &r, &g, &b, 0, 0, kept))
-}
-
-// At row r and column c: red 100 · r + c, green 3 · r, blue c.
-fn fill(red: &mut [u16], green: &mut [u16], blue: &mut [u16])
-    requires { (length red.old ≡ 1440) × (length green.old ≡ 1440) × (length blue.old ≡ 1440) }
+// Red 7, green 8 and blue 9, asked at the first place: of a width that is said, and with the first samples of green alone.
+pub(crate) fn misfit(
+    rt: &impl Print,
+    width: usize,
+    greens: usize,
+    kept: &mut Kept,
+) -> io::Result<()>
+    requires { greens ≤ SAMPLES }
 {
-    for k in 0..1440 {
-        let r = k / 40;
-        let c = k % 40;
-        red[k] = (100 * r + c) as u16;
-        green[k] = (3 * r) as u16;
-        blue[k] = c as u16;
-    }
+    let r = [7; SAMPLES];
+    let g = [8; SAMPLES];
+    let b = [9; SAMPLES];
+    print::answer(
+        rt,
+        spot::read_spot(width, HEIGHT, &r, &g[..greens], &b, 0, 0, kept),
+        kept,
+    )
 }
 
-pub(crate) fn ramp(rt: &impl Print, row: usize, column: usize, kept: Kept) -> io::Result<Kept> {
-    let mut r = [0; 1440];
-    let mut g = [0; 1440];
-    let mut b = [0; 1440];
-    fill(&mut r, &mut g, &mut b);
-    crate::print::answer(rt, spot::read_spot(40, 36, &r, &g, &b, row, column, kept))
+// At row r and column c: red 100 · r + c, green 3 · r, blue c. All fit, as is proved: `u16::try_from(..).unwrap()` would be no plainer.
+pub(crate) fn ramp(rt: &impl Print, row: usize, column: usize, kept: &mut Kept) -> io::Result<()> {
+    let r: [u16; SAMPLES] = array::from_fn(|k| (100 * (k / WIDTH) + k % WIDTH) as u16);
+    let g: [u16; SAMPLES] = array::from_fn(|k| (3 * (k / WIDTH)) as u16);
+    let b: [u16; SAMPLES] = array::from_fn(|k| (k % WIDTH) as u16);
+    print::answer(
+        rt,
+        spot::read_spot(WIDTH, HEIGHT, &r, &g, &b, row, column, kept),
+        kept,
+    )
 }

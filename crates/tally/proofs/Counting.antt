@@ -7,34 +7,34 @@ use native.Mathlib.Omega.{arith}
 use Rattle.tally.specs.Tally.{largest_count, stopped, finished_after, refused_after, rounds_after, tally, zero_tally, next_tally, Counted, tally_after, if_zero, accepted_calls, refused_calls, accepted_rounds, own_count}
 use Rattle.tally.specs.declared.Tally.{Tally}
 
--- ---- a count after a call that answered n
-module _ (before n : ℕ) where
-  pub finished_yes : n ≡ 0 → stopped (before + 1) ≡ finished_after before n
+-- ---- a count r after a call that answered n
+module _ (before n : ℕ) {r : ℕ} where
+  pub finished_yes : n ≡ 0 → r ≡ stopped (before + 1) → r ≡ finished_after before n
   unfolding finished_after
-  finished_yes z = ap (finished_after before) (sym z)
+  finished_yes z e = e ∙ ap (finished_after before) (sym z)
 
-  pub refused_yes : n ≡ 0 → before ≡ refused_after before n
+  pub refused_yes : n ≡ 0 → r ≡ before → r ≡ refused_after before n
   unfolding refused_after
-  refused_yes z = ap (refused_after before) (sym z)
+  refused_yes z e = e ∙ ap (refused_after before) (sym z)
 
-  pub rounds_yes : (rounds : ℕ) → n ≡ 0 → stopped (before + rounds) ≡ rounds_after before n rounds
+  pub rounds_yes : (rounds : ℕ) → n ≡ 0 → r ≡ stopped (before + rounds) → r ≡ rounds_after before n rounds
   unfolding rounds_after
-  rounds_yes rounds z = ap (λ (k : ℕ). rounds_after before k rounds) (sym z)
+  rounds_yes rounds z e = e ∙ ap (λ (k : ℕ). rounds_after before k rounds) (sym z)
 
-pub finished_no : (before n : ℕ) → (n ≡ 0 → ⊥) → before ≡ finished_after before n
+pub finished_no : (before n : ℕ) {r : ℕ} → (n ≡ 0 → ⊥) → r ≡ before → r ≡ finished_after before n
 unfolding finished_after
-finished_no before zero h = absurd (h refl)
-finished_no before (suc n) h = refl
+finished_no before zero h e = absurd (h refl)
+finished_no before (suc n) h e = e
 
-pub refused_no : (before n : ℕ) → (n ≡ 0 → ⊥) → stopped (before + 1) ≡ refused_after before n
+pub refused_no : (before n : ℕ) {r : ℕ} → (n ≡ 0 → ⊥) → r ≡ stopped (before + 1) → r ≡ refused_after before n
 unfolding refused_after
-refused_no before zero h = absurd (h refl)
-refused_no before (suc n) h = refl
+refused_no before zero h e = absurd (h refl)
+refused_no before (suc n) h e = e
 
-pub rounds_no : (before n rounds : ℕ) → (n ≡ 0 → ⊥) → before ≡ rounds_after before n rounds
+pub rounds_no : (before n rounds : ℕ) {r : ℕ} → (n ≡ 0 → ⊥) → r ≡ before → r ≡ rounds_after before n rounds
 unfolding rounds_after
-rounds_no before zero rounds h = absurd (h refl)
-rounds_no before (suc n) rounds h = refl
+rounds_no before zero rounds h e = absurd (h refl)
+rounds_no before (suc n) rounds h e = e
 
 -- ---- a list of calls
 -- no count is above the largest

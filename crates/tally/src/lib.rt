@@ -1,8 +1,8 @@
-// Document 01's tally of finishing calls.
+// Document 01's tally of finishing calls. Each count stops at the largest number.
 #![tactic(auto)]
 
-ghost use Rattle.std.specs.Prelude.{◌≡◌, ◌+◌};
-ghost use Rattle.tally.specs.Tally.{stopped, finished_after, refused_after, rounds_after, zero_tally, next_tally};
+ghost use Rattle.std.specs.Prelude.{◌≡◌};
+ghost use Rattle.tally.specs.Tally.{finished_after, refused_after, rounds_after, zero_tally, next_tally};
 
 // Frames finished, frames refused and rounds run.
 #[derive(Clone, Copy)]
@@ -12,23 +12,13 @@ pub struct Tally {
     pub rounds: u32,
 }
 
-// A count that stops at the largest number.
-fn counted(before: u32, more: u32) -> u32
-    ensures { result ≡ stopped (before + more) }
-{
-    let left = 4294967295 - before;
-    if left < more {
-        return 4294967295;
-    }
-    before + more
-}
-
-// The frames finished after a finishing call that answered this number, 0 for accepted.
+// The frames finished after a finishing call that answered this number, 0 for accepted. A number and no Result, since C, which counts by this call and the next
+// two, has the number alone.
 pub fn finished_after(before: u32, number: u32) -> u32
     ensures { result ≡ finished_after before number }
 {
     if number == 0 {
-        return counted(before, 1);
+        return before.saturating_add(1);
     }
     before
 }
@@ -40,7 +30,7 @@ pub fn refused_after(before: u32, number: u32) -> u32
     if number == 0 {
         return before;
     }
-    counted(before, 1)
+    before.saturating_add(1)
 }
 
 // The rounds run after it, where it was given so many rounds.
@@ -48,13 +38,13 @@ pub fn rounds_after(before: u32, number: u32, rounds: u32) -> u32
     ensures { result ≡ rounds_after before number rounds }
 {
     if number == 0 {
-        return counted(before, rounds);
+        return before.saturating_add(rounds);
     }
     before
 }
 
 impl Tally {
-    // Nothing counted.
+    // Nothing counted. `Default` would be a second name for it.
     pub fn zero() -> Self
         ensures { result ≡ zero_tally }
     {

@@ -13,10 +13,10 @@ use Rattle.planes.specs.Planes.{listing, plane_of, Frame, frame}
 use Rattle.planes.proofs.Layouts.{row_lt, column_lt, row_with, column_with, parities_again, own_parities}
 use Rattle.questions.specs.Questions.{ask}
 use Rattle.questions.proofs.Asking.{all_yes, Shape, shape_is}
+use Rattle.questions.specs.declared.Shape.{Shape as Turned}
 use Rattle.turns.specs.Pictures.{Picture, exchanged, left_right, top_bottom, flip_if_even, steps_of, if_so, turned_by, turned, followed_by, number_of_steps, then_another}
 use Rattle.turns.specs.Frames.{picture_of, frame_of, turn_frame}
-use Rattle.turns.specs.Turning.{shape_turned, shape_turn_questions, length_questions, accepted_as}
-use Rattle.turns.specs.declared.TurnedFrame.TheVariants.{Accepted}
+use Rattle.turns.specs.Turning.{shape_turned, shape_turn_questions, length_questions, shape_of}
 use Rattle.turns.specs.Filling.{mirror_place, source_row, source_plane}
 use Rattle.turns.proofs.Pictures.{flip_lt}
 
@@ -210,8 +210,8 @@ pub samples_low : (t w h l : ℕ) (s : List ℕ) {out : List ℕ} → t < 4 → 
 samples_low t w h l s k e = e ∙ sym (turned_samples false t w h l s (lt-leb 4 t k))
 
 -- ---- what an accepted call knows
-pub shape_known : (t w h l n : ℕ) → n ≡ ask (shape_turn_questions t w h l) → n ≡ 0 → Shape w h l
-shape_known t w h l n e z = shape_is w h l (all_yes (shape_turn_questions t w h l) tt n e z).1
+pub shape_known : (t w h l : ℕ) → 0 ≡ ask (shape_turn_questions t w h l) → Shape w h l
+shape_known t w h l e = shape_is w h l (all_yes (shape_turn_questions t w h l) tt 0 e refl).1
 
 -- and the turning call
 pub record Fillable (w h l given room : ℕ) : Type 0 where
@@ -219,9 +219,9 @@ pub record Fillable (w h l given room : ℕ) : Type 0 where
   pub samples : given ≡ w * h
   pub buffer : room ≡ w * h
 
-pub fillable : (t w h l given room n : ℕ) → n ≡ ask (shape_turn_questions t w h l ++ length_questions (w * h) given room) → n ≡ 0 → Fillable w h l given room
-fillable t w h l given room n e z =
-    let y = all_yes (shape_turn_questions t w h l ++ length_questions (w * h) given room) tt n e z in
+pub fillable : (t w h l given room : ℕ) → 0 ≡ ask (shape_turn_questions t w h l ++ length_questions (w * h) given room) → Fillable w h l given room
+fillable t w h l given room e =
+    let y = all_yes (shape_turn_questions t w h l ++ length_questions (w * h) given room) tt 0 e refl in
     record {
       shape = shape_is w h l (y.1.0, (y.1.1.0, (y.1.1.1.0, tt)));
       samples = eqb-true given (w * h) y.1.1.1.1.0;
@@ -230,8 +230,8 @@ fillable t w h l given room n e z =
 
 -- its answer, by whether the turn exchanges
 pub turned_answer : (t : ℕ) (f : Frame) {w h l : ℕ} → w ≡ cond (leb 4 t) f.height f.width → h ≡ cond (leb 4 t) f.width f.height
-    → l ≡ (shape_turned t f.width f.height f.layout).layout → Accepted w h l ≡ accepted_as (turn_frame t f)
-turned_answer t f p q r = λ i. Accepted ((p ∙ sym (frame_width t f)) i) ((q ∙ sym (frame_height t f)) i) ((r ∙ sym (frame_layout t f)) i)
+    → l ≡ (shape_turned t f.width f.height f.layout).layout → ◌≡◌ {A = Turned} (record { width = w; height = h; layout = l }) (shape_of (turn_frame t f))
+turned_answer t f p q r = λ i. record { width = (p ∙ sym (frame_width t f)) i; height = (q ∙ sym (frame_height t f)) i; layout = (r ∙ sym (frame_layout t f)) i }
 
 -- the turned shape, by whether the turn exchanges
 pub shape_width : (t w h l : ℕ) → (shape_turned t w h l).width ≡ cond (leb 4 t) h w

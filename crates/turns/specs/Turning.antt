@@ -3,16 +3,9 @@ use Rattle.std.specs.Prelude.{List, [], ◌∷◌, ◌++◌, ℕ, ◌*◌, leb, 
 use Rattle.planes.specs.Planes.{Frame}
 use Rattle.questions.specs.Questions.{Question, question, shape_questions}
 use Rattle.questions.specs.Calls.{Call}
+use Rattle.questions.specs.declared.Shape.{Shape}
 use Rattle.turns.specs.Pictures.{Picture, turned}
 use Rattle.turns.specs.Frames.{turn_frame}
-use Rattle.turns.specs.declared.Composed.{Composed}
-use Rattle.turns.specs.declared.Composed.TheVariants as composed
-use Rattle.turns.specs.declared.Extent.{Extent}
-use Rattle.turns.specs.declared.Extent.TheVariants as extent
-use Rattle.turns.specs.declared.TurnedLayout.{TurnedLayout}
-use Rattle.turns.specs.declared.TurnedLayout.TheVariants as turned_layout
-use Rattle.turns.specs.declared.TurnedFrame.{TurnedFrame}
-use Rattle.turns.specs.declared.TurnedFrame.TheVariants as turned_frame
 
 -- ---- the questions, in document 01's order
 -- then-another: 16 of both turns
@@ -31,38 +24,21 @@ length_questions count given room = question 6 (eqb given count) ∷ question 7 
 abbrev pub turn_questions : ℕ → Frame → ℕ → List Question
 turn_questions turn f room = shape_turn_questions turn f.width f.height f.layout ++ length_questions (f.width * f.height) (length f.samples) room
 
--- ---- document 01's number of each answer
-abbrev pub number_of_composed : Composed → ℕ
-number_of_composed (composed.Single turn) = 0
-number_of_composed (composed.Refused number) = number
-
-abbrev pub number_of_extent : Extent → ℕ
-number_of_extent (extent.Places n) = 0
-number_of_extent (extent.Refused number) = number
-
-abbrev pub number_of_layout : TurnedLayout → ℕ
-number_of_layout (turned_layout.Layout layout) = 0
-number_of_layout (turned_layout.Refused number) = number
-
-abbrev pub number_of_frame : TurnedFrame → ℕ
-number_of_frame (turned_frame.Accepted width height layout) = 0
-number_of_frame (turned_frame.Refused number) = number
-
 -- ---- what is promised
 -- a width, a height and a layout with nothing at the places, turned
 unfoldable pub shape_turned : ℕ → ℕ → ℕ → ℕ → Picture Unit
 shape_turned turn width height layout = turned turn (record { width = width; height = height; layout = layout; at = λ r c. tt })
 
--- the answer that an accepted turning call gives
-abbrev pub accepted_as : Frame → TurnedFrame
-accepted_as f = turned_frame.Accepted f.width f.height f.layout
+-- a frame's width, height and layout
+abbrev pub shape_of : Frame → Shape
+shape_of f = record { width = f.width; height = f.height; layout = f.layout }
 
--- the turning call, given frame f and a second buffer that held `before`: the buffer holds the turned samples then
-abbrev pub turn_call : ℕ → Frame → List ℕ → Call TurnedFrame (List ℕ)
+-- the turning call, given frame f and a second buffer that held `before`: the turned width, height and layout are handed back, and the buffer holds the
+-- turned samples then
+abbrev pub turn_call : ℕ → Frame → List ℕ → Call Shape (List ℕ)
 turn_call turn f before = record {
   questions = turn_questions turn f (length before);
-  number_of = number_of_frame;
-  answer = accepted_as (turn_frame turn f);
+  answer = shape_of (turn_frame turn f);
   new = (turn_frame turn f).samples;
   old = before;
 }

@@ -5,111 +5,77 @@ ghost use Rattle.std.specs.Prelude.{◌≡◌, cond, ◌++◌, ℕ, ◌+◌, ◌
 ghost use Rattle.integers.specs.Lists.{overwrite};
 ghost use Rattle.planes.specs.Planes.{frame, listing};
 ghost use Rattle.planes.specs.Lists.{InRow, InPlane};
+ghost use Rattle.questions.specs.Settings.{framed};
 ghost use Rattle.questions.specs.Questions.{ask};
-ghost use Rattle.questions.specs.Calls.{Answered, Result};
+ghost use Rattle.questions.specs.Refusals.{number_of};
+ghost use Rattle.questions.specs.Calls.{Answered, Outcome};
 ghost use Rattle.turns.specs.Pictures.{flip_if_even, then_another};
 ghost use Rattle.turns.specs.Frames.{turn_frame};
-ghost use Rattle.turns.specs.Turning.{shape_turned, then_questions, shape_turn_questions, length_questions, number_of_composed, number_of_extent, number_of_layout, turn_call};
+ghost use Rattle.turns.specs.Turning.{shape_turned, then_questions, shape_turn_questions, length_questions, turn_call};
 ghost use Rattle.turns.specs.Filling.{mirror_place, source_row, source_plane};
 
-// A turn, 0 to 7: 4 and more exchange rows and columns first; then 1 mirrors left-right, 2 top-bottom, 3 both.
+use questions::{Refusal, Shape};
+
+// A turn, 0 to 7: 4 and more exchange rows and columns first; then 1 mirrors left-right, 2 top-bottom, 3 both. No enum: any byte may come, since question 16
+// is asked of it, and the three steps are read off the number, which goes on alone inside.
 #[derive(Clone, Copy)]
 pub struct Turn {
     pub number: u8,
 }
 
-// A turn and then another, as a single one; or the refusal's number.
-#[derive(Clone, Copy)]
-pub enum Composed {
-    Single(Turn),
-    Refused(u32),
-}
-
-// A turned width or height, in places.
-#[derive(Clone, Copy)]
-pub enum Extent {
-    Places(usize),
-    Refused(u32),
-}
-
-#[derive(Clone, Copy)]
-pub enum TurnedLayout {
-    Layout(u8),
-    Refused(u32),
-}
-
-// What the turning call answers.
-#[derive(Clone, Copy)]
-pub enum TurnedFrame {
-    Accepted {
-        width: usize,
-        height: usize,
-        layout: u8,
-    },
-    Refused(u32),
-}
-
 impl Turn {
-    // This turn, then another. Asks 16 of both.
-    pub fn then_another(self, next: Turn) -> Composed
-        ensures { Answered number_of_composed (then_questions self.number next.number) (Composed.Single (record { number = then_another self.number next.number })) result }
+    // This turn, then another, as a single one. Asks 16 of both.
+    pub fn then_another(self, next: Turn) -> Result<Turn, Refusal>
+        ensures { Answered (then_questions self.number next.number) (record { number = then_another self.number next.number }) result }
     {
         let first = self.number;
         let second = next.number;
         if 7 < first {
-            return Composed::Refused(16);
+            return Err(Refusal::Turn);
         }
         if 7 < second {
-            return Composed::Refused(16);
+            return Err(Refusal::Turn);
         }
-        Composed::Single(Turn {
+        Ok(Turn {
             number: single(first, second),
         })
     }
 
     // The width after this turn. Asks 16, 1, 2 and 3, as the next two do.
-    pub fn turned_width(self, width: usize, height: usize, layout: u8) -> Extent
-        ensures { Answered number_of_extent (shape_turn_questions self.number width height layout) (Extent.Places (shape_turned self.number width height layout).width) result }
+    pub fn turned_width(self, shape: Shape) -> Result<usize, Refusal>
+        ensures { Answered (shape_turn_questions self.number shape.width shape.height shape.layout) (shape_turned self.number shape.width shape.height shape.layout).width result }
     {
         let turn = self.number;
-        let number = shape_refusal(turn, width, height, layout);
-        if number != 0 {
-            return Extent::Refused(number);
-        }
-        Extent::Places(if_exchanged(turn, height, width))
+        ask_turned_shape(turn, shape)?;
+        Ok(if_exchanged(turn, shape.height, shape.width))
     }
 
-    pub fn turned_height(self, width: usize, height: usize, layout: u8) -> Extent
-        ensures { Answered number_of_extent (shape_turn_questions self.number width height layout) (Extent.Places (shape_turned self.number width height layout).height) result }
+    // Both names are called by themselves; one function that is told which would be no plainer.
+    pub fn turned_height(self, shape: Shape) -> Result<usize, Refusal>
+        ensures { Answered (shape_turn_questions self.number shape.width shape.height shape.layout) (shape_turned self.number shape.width shape.height shape.layout).height result }
     {
         let turn = self.number;
-        let number = shape_refusal(turn, width, height, layout);
-        if number != 0 {
-            return Extent::Refused(number);
-        }
-        Extent::Places(if_exchanged(turn, width, height))
+        ask_turned_shape(turn, shape)?;
+        Ok(if_exchanged(turn, shape.width, shape.height))
     }
 
-    pub fn turned_layout(self, width: usize, height: usize, layout: u8) -> TurnedLayout
-        ensures { Answered number_of_layout (shape_turn_questions self.number width height layout) (TurnedLayout.Layout (shape_turned self.number width height layout).layout) result }
+    pub fn turned_layout(self, shape: Shape) -> Result<u8, Refusal>
+        ensures { Answered (shape_turn_questions self.number shape.width shape.height shape.layout) (shape_turned self.number shape.width shape.height shape.layout).layout result }
     {
         let turn = self.number;
-        let number = shape_refusal(turn, width, height, layout);
-        if number != 0 {
-            return TurnedLayout::Refused(number);
-        }
-        TurnedLayout::Layout(layout_after(turn, width, height, layout))
+        ask_turned_shape(turn, shape)?;
+        Ok(layout_after(turn, shape))
     }
 }
 
 // Questions 16, 1, 2 and 3.
-fn shape_refusal(turn: u8, width: usize, height: usize, layout: u8) -> u32
-    ensures { result ≡ ask (shape_turn_questions turn width height layout) }
+fn ask_turned_shape(turn: u8, shape: Shape) -> Result<(), Refusal>
+    ensures { number_of result ≡ ask (shape_turn_questions turn shape.width shape.height shape.layout) }
 {
     if 7 < turn {
-        return 16;
+        return Err(Refusal::Turn);
     }
-    questions::shape(width, height, layout)
+    questions::ask_shape(shape)
 }
 
 // The one turn that does what the two do: an exchange in the second swaps the mirrors of the first.
@@ -124,31 +90,37 @@ fn single(first: u8, second: u8) -> u8
     }
 }
 
-// The first number for a turn that exchanges rows and columns, else the second.
+// The first number for a turn that exchanges rows and columns, else the second: one test with a name for the calls that ask it.
 fn if_exchanged(turn: u8, yes: usize, no: usize) -> usize
     ensures { result ≡ cond (leb 4 turn) yes no }
 {
     if 4 <= turn { yes } else { no }
 }
 
-// A parity of red after the mirror of a line of n places, if `mirror` is 1.
-fn mirrored_parity(mirror: u8, n: usize, parity: u8) -> u8
+// A parity of red after the mirror of a line of n places, if there is one.
+#[tactic(auto, using(crate::proofs::Pictures::flip_even, crate::proofs::Pictures::flip_odd))]
+fn mirrored_parity(mirror: bool, n: usize, parity: u8) -> u8
     requires { parity ≤ 1 }
-    ensures { (result ≡ cond (eqb mirror 1) (flip_if_even n parity) parity) × (result ≤ 1) }
+    ensures { (result ≡ cond mirror (flip_if_even n parity) parity) × (result ≤ 1) }
 {
-    if mirror != 1 {
+    if !mirror {
         return parity;
     }
     if n % 2 == 0 { 1 - parity } else { parity }
 }
 
 // A layout, turned; its level stays. After an exchange red's rows have the parity of its columns, and the height is the old width.
-fn layout_after(turn: u8, width: usize, height: usize, layout: u8) -> u8
-    requires { layout ≤ 7 }
-    ensures { result ≡ (shape_turned turn width height layout).layout }
+fn layout_after(turn: u8, shape: Shape) -> u8
+    requires { shape.layout ≤ 7 }
+    ensures { result ≡ (shape_turned turn shape.width shape.height shape.layout).layout }
 {
-    let left_right = turn % 2;
-    let top_bottom = turn / 2 % 2;
+    let Shape {
+        width,
+        height,
+        layout,
+    } = shape;
+    let left_right = turn % 2 == 1;
+    let top_bottom = turn / 2 % 2 == 1;
     let row = layout / 2 % 2;
     let column = layout % 2;
     let level = 4 * (layout / 4);
@@ -161,18 +133,20 @@ fn layout_after(turn: u8, width: usize, height: usize, layout: u8) -> u8
     }
 }
 
-// A place of a line of n, mirrored if `mirror` is 1.
-fn mirrored(mirror: u8, n: usize, i: usize) -> usize
+// A place of a line of n, mirrored or not.
+#[tactic(auto, unfolding(crate::specs::Filling::mirror_place))]
+fn mirrored(mirror: bool, n: usize, i: usize) -> usize
     requires { i < n }
-    ensures { (result ≡ mirror_place (eqb mirror 1) n i) × (result < n) }
+    ensures { (result ≡ mirror_place mirror n i) × (result < n) }
 {
-    if mirror == 1 { n - 1 - i } else { i }
+    if mirror { n - 1 - i } else { i }
 }
 
 // A turned row of n samples, into `out` from `at` on: they stand `step` apart in `samples`, the first at `from`.
+// A list comes with a place in it, and is no part cut from it (docs/DECISIONS.md, "Lent lists").
 fn fill_row(
     samples: &[u16],
-    mirror: u8,
+    mirror: bool,
     n: usize,
     from: usize,
     step: usize,
@@ -181,21 +155,20 @@ fn fill_row(
 )
     requires in_row { InRow samples.now from n step }
     requires n_in_bounds { at + n ≤ length out.old }
-    ensures { out.new ≡ overwrite out.old at n (source_row samples.now (eqb mirror 1) n from step) }
+    ensures { out.new ≡ overwrite out.old at n (source_row samples.now mirror n from step) }
 {
-    let mut j = 0;
-    while j < n {
+    for j in 0..n {
         let source = from + mirrored(mirror, n, j) * step;
         out[at + j] = samples[source];
-        j += 1;
     }
 }
 
-// All turned rows. Rows stand `row_step` apart in `samples`, the samples of a row `column_step`.
+// All turned rows. Rows stand `row_step` apart in `samples`, the samples of a row `column_step`. A struct of the six numbers would have one caller, which
+// would write them all the same.
 fn fill_rows(
     samples: &[u16],
-    left_right: u8,
-    top_bottom: u8,
+    left_right: bool,
+    top_bottom: bool,
     columns: usize,
     rows: usize,
     row_step: usize,
@@ -204,10 +177,9 @@ fn fill_rows(
 )
     requires in_plane { InPlane samples.now 0 columns rows row_step column_step }
     requires out_len { length out.old ≡ columns * rows }
-    ensures { out.new ≡ listing columns rows (source_plane samples.now (eqb left_right 1) (eqb top_bottom 1) columns rows row_step column_step) }
+    ensures { out.new ≡ listing columns rows (source_plane samples.now left_right top_bottom columns rows row_step column_step) }
 {
-    let mut i = 0;
-    while i < rows {
+    for i in 0..rows {
         let from = mirrored(top_bottom, rows, i) * row_step;
         fill_row(
             samples,
@@ -218,7 +190,6 @@ fn fill_rows(
             out,
             i * columns,
         );
-        i += 1;
     }
 }
 
@@ -227,8 +198,8 @@ fn fill(turn: u8, width: usize, height: usize, samples: &[u16], out: &mut [u16])
     requires { (0 < width) × (0 < height) × (length samples.now ≡ width * height) × (length out.old ≡ width * height) }
     ensures { (layout : ℕ) → out.new ≡ (turn_frame turn (frame width height layout samples.now)).samples }
 {
-    let lr = turn % 2;
-    let tb = turn / 2 % 2;
+    let lr = turn % 2 == 1;
+    let tb = turn / 2 % 2 == 1;
     if 4 <= turn {
         fill_rows(samples, lr, tb, height, width, 1, width, out);
         return;
@@ -237,43 +208,35 @@ fn fill(turn: u8, width: usize, height: usize, samples: &[u16], out: &mut [u16])
 }
 
 // Questions 16, 1, 2, 3, 6 and 7, of `given` samples and a second buffer of `room`.
-fn turn_refusal(turn: u8, width: usize, height: usize, layout: u8, given: usize, room: usize) -> u32
-    ensures { result ≡ ask (shape_turn_questions turn width height layout ++ length_questions (width * height) given room) }
+fn ask_turn(turn: u8, shape: Shape, given: usize, room: usize) -> Result<(), Refusal>
+    ensures { number_of result ≡ ask (shape_turn_questions turn shape.width shape.height shape.layout ++ length_questions (shape.width * shape.height) given room) }
 {
-    let number = shape_refusal(turn, width, height, layout);
-    if number != 0 {
-        return number;
-    }
-    let count = width * height;
+    ask_turned_shape(turn, shape)?;
+    let count = shape.width * shape.height;
     if given != count {
-        return 6;
+        return Err(Refusal::GivenLength);
     }
     if room != count {
-        return 7;
+        return Err(Refusal::FilledLength);
     }
-    0
+    Ok(())
 }
 
-// The turning call: the turned samples into `out`, a second buffer of exactly as many.
+// The turning call: the turned samples into `out`, a second buffer of exactly as many; the turned width, height and layout.
 pub fn turn_samples(
     turn: Turn,
-    width: usize,
-    height: usize,
-    layout: u8,
+    shape: Shape,
     samples: &[u16],
     out: &mut [u16],
-) -> TurnedFrame
-    ensures { Result (turn_call turn.number (frame width height layout samples.now) out.old) result out.new }
+) -> Result<Shape, Refusal>
+    ensures { Outcome (turn_call turn.number (framed shape samples.now) out.old) result out.new }
 {
     let t = turn.number;
-    let refusal = turn_refusal(t, width, height, layout, samples.len(), out.len());
-    if refusal != 0 {
-        return TurnedFrame::Refused(refusal);
-    }
-    fill(t, width, height, samples, out);
-    TurnedFrame::Accepted {
-        width: if_exchanged(t, height, width),
-        height: if_exchanged(t, width, height),
-        layout: layout_after(t, width, height, layout),
-    }
+    ask_turn(t, shape, samples.len(), out.len())?;
+    fill(t, shape.width, shape.height, samples, out);
+    Ok(Shape {
+        width: if_exchanged(t, shape.height, shape.width),
+        height: if_exchanged(t, shape.width, shape.height),
+        layout: layout_after(t, shape),
+    })
 }

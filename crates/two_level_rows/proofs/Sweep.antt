@@ -53,7 +53,34 @@ pub record Rings : Type 0 where
   pub together : List ℤ
   pub rests : List ℤ
 
-module _ (g : Given) (second least most : ℤ) (own : List ℤ) (guide : List ℕ) where
+-- what a sweep is given, with its numbers as the machine reads them
+pub record Sides : Type 0 where
+  pub given : Given
+  pub second : ℤ
+  pub least : ℤ
+  pub most : ℤ
+  pub own : List ℤ
+  pub guide : List ℕ
+
+module _ (v : Sides) where
+  abbrev g : Given
+  g = v.given
+
+  abbrev second : ℤ
+  second = v.second
+
+  abbrev least : ℤ
+  least = v.least
+
+  abbrev most : ℤ
+  most = v.most
+
+  abbrev own : List ℤ
+  own = v.own
+
+  abbrev guide : List ℕ
+  guide = v.guide
+
   abbrev w : ℕ
   w = g.width
 

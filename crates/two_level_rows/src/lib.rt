@@ -9,7 +9,7 @@ ghost use Rattle.rings.specs.Stages.{AsLong};
 ghost use Rattle.two_level_rows.specs.TwoLevels.{with_projected};
 
 // The plane's details at the first level held within the guide's ± given.limit, band 1's within ± second_limit, and the plane brought back to
-// least..most. The rings and lines are scratch.
+// least..most. The rings and lines are scratch. Lent lists go one by one (docs/DECISIONS.md, "Lent lists").
 pub fn project_rows(
     own: &mut [i32],
     guide: &[u16],
@@ -55,8 +55,7 @@ pub fn project_rows(
         lag: 3,
     };
     let steps = given.height + 9;
-    let mut t = 0;
-    while t < steps {
+    for t in 0..steps {
         rings::difference_stage(own, guide, given, t, differences);
         rings::parts_stage(
             differences,
@@ -79,6 +78,5 @@ pub fn project_rows(
             apart2, together2, apart1, together1, given, t, low, high, apart, together, rests,
         );
         second_level::settled_stage(own, given, t, apart, together, rests, low, least, most);
-        t += 1;
     }
 }

@@ -1,150 +1,112 @@
-// Inner: the rounds of red and of blue at two levels of the bank, with rings that are declared once for all rounds of a colour.
+// Inner: the rounds of a colour at two levels of the bank, with rings that are declared once for all of them.
 #![tactic(auto)]
 
-ghost use Rattle.std.specs.Prelude.{◌≡◌, true, ◌+◌, ◌*◌, ◌≤◌, ◌<◌, pos, length};
-ghost use Rattle.planes.specs.Planes.{plane_of};
-ghost use Rattle.work_buffer.specs.Buffer.{with_plane, zeroed, Workable};
-ghost use Rattle.working_plane.specs.Rounds.{working_plane};
-ghost use Rattle.working_plane.specs.Colours.{round_of, other, rewritten_list, KeptPlane};
+ghost use Rattle.std.specs.Prelude.{◌≡◌, true, ◌+◌, ◌*◌, ◌≤◌, length};
+ghost use Rattle.filters.specs.Bank.{Distance};
+ghost use Rattle.rings.specs.Planes.{Projectable};
+ghost use Rattle.two_level_rows.specs.TwoLevels.{with_projected};
 
-use working_plane::Colour;
+use rings::{FIVE_ROWS, LINE, NINE_ROWS, SEVEN_ROWS, THREE_ROWS};
+use working_plane::{Colour, Level};
 
-// So many rounds of a colour's working plane: the projection on green, and then the observed samples. The rings and lines are scratch.
-fn run(
-    colour: Colour,
-    top: u16,
-    rounds: u8,
-    mosaic: &[u16],
-    green: &[u16],
-    work: &mut [i32],
-    differences: &mut [i32],
-    band: &mut [i32],
-    apart1: &mut [i32],
-    together1: &mut [i32],
-    apart2: &mut [i32],
-    together2: &mut [i32],
-    apart: &mut [i32],
-    together: &mut [i32],
-    rests: &mut [i32],
-    low: &mut [i32],
-    high: &mut [i32],
-    parts: &mut [i32],
-    minus: &mut [i32],
-    plus: &mut [i32],
-)
-    requires workable { Workable colour.width colour.height mosaic.now green.now (length work.old) × (colour.row < 2) × (colour.column < 2) × KeptPlane work.old (colour.width * colour.height) }
-    requires width_in_bounds { (3 * colour.width ≤ length differences.old) × (5 * colour.width ≤ length band.old) × (7 * colour.width ≤ length apart1.old) × (7 * colour.width ≤ length together1.old) × (9 * colour.width ≤ length apart2.old) × (9 * colour.width ≤ length together2.old) }
-    requires width_in_bounds_2 { (5 * colour.width ≤ length apart.old) × (5 * colour.width ≤ length together.old) × (5 * colour.width ≤ length rests.old) }
-    requires width_in_bounds_3 { (colour.width + 8 ≤ length low.old) × (colour.width + 8 ≤ length high.old) × (colour.width + 8 ≤ length parts.old) × (colour.width + 8 ≤ length minus.old) × (colour.width + 8 ≤ length plus.old) }
-    ensures { work.new ≡ with_plane colour.width colour.height (working_plane rounds (round_of true colour top mosaic.now green.now) (plane_of (pos 0) colour.width work.old)) work.old }
-{
-    let given = working_plane::given_of(colour);
-    let second_limit = 256 * work_buffer::widened(colour.threshold);
-    let least = working_plane::least_kept(top);
-    let most = working_plane::most_kept(top);
-    let mut n = 0;
-    while n < rounds {
-        two_level_rows::project_rows(
-            work,
-            green,
-            given,
-            second_limit,
-            least,
-            most,
-            differences,
-            band,
-            apart1,
-            together1,
-            apart2,
-            together2,
-            apart,
-            together,
-            rests,
-            low,
-            high,
-            parts,
-            minus,
-            plus,
-        );
-        working_plane::put_observed(colour, mosaic, work);
-        n += 1;
-    }
+// What a sweep of two levels keeps from step to step: the rows that are needed again, and scratch. The lines stand in the order of those of one level
+// (`sweep`), and for the same reason.
+#[derive(Drop)]
+struct Rings {
+    differences: [i32; THREE_ROWS],
+    // band 1 of the differences
+    band: [i32; FIVE_ROWS],
+    // the joined parts of the first level, of the second, and of both merged, with the rests
+    apart1: [i32; SEVEN_ROWS],
+    together1: [i32; SEVEN_ROWS],
+    apart2: [i32; NINE_ROWS],
+    together2: [i32; NINE_ROWS],
+    apart: [i32; FIVE_ROWS],
+    together: [i32; FIVE_ROWS],
+    rests: [i32; FIVE_ROWS],
+    // what of the details lies outside the limit: of bands 3 and 4 the sum and the difference, and of band 2
+    plus: [i32; LINE],
+    minus: [i32; LINE],
+    parts: [i32; LINE],
+    // high and low along the columns
+    high: [i32; LINE],
+    low: [i32; LINE],
+    // room for the widest frame, which a projection asks
+    ghost differences_room: { 3 * 2048 ≤ length differences },
+    ghost band_room: { 5 * 2048 ≤ length band },
+    ghost levels_room: { (7 * 2048 ≤ length apart1) × (7 * 2048 ≤ length together1) × (9 * 2048 ≤ length apart2) × (9 * 2048 ≤ length together2) },
+    ghost merged_room: { (5 * 2048 ≤ length apart) × (5 * 2048 ≤ length together) × (5 * 2048 ≤ length rests) },
+    ghost outside_room: { (2048 + 8 ≤ length plus) × (2048 + 8 ≤ length minus) × (2048 + 8 ≤ length parts) },
+    ghost lines_room: { (2048 + 8 ≤ length high) × (2048 + 8 ≤ length low) },
 }
 
-// A colour's plane: loaded, worked on through all rounds, and unloaded once, clipped. The rings stand here, so that they are declared once for all rounds, and
-// so that this function has them on its stack and its callers do not: it is called twice, and the compiler leaves it by itself.
-fn rewrite(
-    colour: Colour,
-    top: u16,
-    rounds: u8,
-    mosaic: &[u16],
-    green: &[u16],
-    plane: &mut [u16],
-    work: &mut [i32],
+// The projection at two levels, with what it keeps.
+fn project(
+    own: &mut [i32],
+    guide: &[u16],
+    given: rings::Given,
+    second_limit: i32,
+    least: i32,
+    most: i32,
+    kept: &mut Rings,
 )
-    requires { Workable colour.width colour.height mosaic.now green.now (length work.old) × (colour.row < 2) × (colour.column < 2) × (length plane.old ≡ colour.width * colour.height) }
-    ensures plane_after { plane.new ≡ rewritten_list true colour top rounds mosaic.now green.now plane.old }
-    ensures work_unchanged { zeroed colour.width colour.height work.new ≡ zeroed colour.width colour.height work.old }
+    requires { Projectable given own.old guide.now × Distance second_limit }
+    ensures { own.new ≡ with_projected given second_limit least most own.old guide.now }
 {
-    // Longer than they need be: lines some multiple of 4,096 bytes apart would hinder each other in the machine's loads and stores.
-    let mut differences = [0i32; 6264];
-    let mut band = [0i32; 10360];
-    let mut apart1 = [0i32; 14456];
-    let mut together1 = [0i32; 14456];
-    let mut apart2 = [0i32; 18552];
-    let mut together2 = [0i32; 18552];
-    let mut apart = [0i32; 10360];
-    let mut together = [0i32; 10360];
-    let mut rests = [0i32; 10360];
-    let mut low = [0i32; 2168];
-    let mut high = [0i32; 2168];
-    let mut parts = [0i32; 2168];
-    let mut minus = [0i32; 2168];
-    let mut plus = [0i32; 2168];
-    working_plane::load(plane, work);
-    run(
-        colour,
-        top,
-        rounds,
-        mosaic,
-        green,
-        work,
-        &mut differences,
-        &mut band,
-        &mut apart1,
-        &mut together1,
-        &mut apart2,
-        &mut together2,
-        &mut apart,
-        &mut together,
-        &mut rests,
-        &mut low,
-        &mut high,
-        &mut parts,
-        &mut minus,
-        &mut plus,
+    two_level_rows::project_rows(
+        own,
+        guide,
+        given,
+        second_limit,
+        least,
+        most,
+        &mut kept.differences,
+        &mut kept.band,
+        &mut kept.apart1,
+        &mut kept.together1,
+        &mut kept.apart2,
+        &mut kept.together2,
+        &mut kept.apart,
+        &mut kept.together,
+        &mut kept.rests,
+        &mut kept.low,
+        &mut kept.high,
+        &mut kept.parts,
+        &mut kept.minus,
+        &mut kept.plus,
     );
-    working_plane::unload(work, top, plane);
 }
 
-// Red, and then blue. The work buffer's first 8 · width · height numbers are scratch.
-pub fn rewrite_both(
-    reds: Colour,
-    top: u16,
-    rounds: u8,
-    mosaic: &[u16],
-    red: &mut [u16],
-    green: &[u16],
-    blue: &mut [u16],
-    work: &mut [i32],
-)
-    requires workable { Workable reds.width reds.height mosaic.now green.now (length work.old) × (reds.row < 2) × (reds.column < 2) }
-    requires red_len { (length red.old ≡ reds.width * reds.height) × (length blue.old ≡ reds.width * reds.height) }
-    ensures red_after { red.new ≡ rewritten_list true reds top rounds mosaic.now green.now red.old }
-    ensures blue_after { blue.new ≡ rewritten_list true (other reds) top rounds mosaic.now green.now blue.old }
-    ensures work_unchanged { zeroed reds.width reds.height work.new ≡ zeroed reds.width reds.height work.old }
-{
-    let blues = working_plane::other(reds);
-    rewrite(reds, top, rounds, mosaic, green, red, work);
-    rewrite(blues, top, rounds, mosaic, green, blue, work);
+// Two levels of the bank.
+pub struct Two;
+
+impl Level for Two {
+    ghost two = { true };
+
+    fn run(colour: Colour, top: u16, rounds: u8, mosaic: &[u16], green: &[u16], work: &mut [i32]) {
+        let given = working_plane::given_of(colour);
+        let second_limit = 256 * i32::from(colour.threshold);
+        let least = working_plane::least_kept(top);
+        let most = working_plane::most_kept(top);
+        let mut kept = Rings {
+            differences: [0; THREE_ROWS],
+            band: [0; FIVE_ROWS],
+            apart1: [0; SEVEN_ROWS],
+            together1: [0; SEVEN_ROWS],
+            apart2: [0; NINE_ROWS],
+            together2: [0; NINE_ROWS],
+            apart: [0; FIVE_ROWS],
+            together: [0; FIVE_ROWS],
+            rests: [0; FIVE_ROWS],
+            plus: [0; LINE],
+            minus: [0; LINE],
+            parts: [0; LINE],
+            high: [0; LINE],
+            low: [0; LINE],
+        };
+        for n in 0..rounds {
+            project(work, green, given, second_limit, least, most, &mut kept);
+            working_plane::put_observed(colour, mosaic, work);
+        }
+    }
 }

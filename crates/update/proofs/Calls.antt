@@ -1,5 +1,5 @@
 -- The laws of the update call: what an accepted call knows, and what it leaves. Assumes nothing.
-use mathlib.Core.Path.{◌≡◌, ◌∙◌, ap}
+use mathlib.Core.Path.{◌≡◌, refl, ◌∙◌, ap}
 use mathlib.Core.List.{List}
 use Prim.Native.Nat.{ℕ, ◌*◌, ◌-◌, ◌≤◌, ◌<◌}
 use native.Mathlib.Omega.{arith}
@@ -21,10 +21,10 @@ use Rattle.update.specs.Places.{with_mixed}
 use Rattle.update.proofs.Places.{second_colour}
 
 -- ---- what an accepted call knows
-pub update_workable : (top : ℕ) (f : Frame) (green : List ℕ) (room n : ℕ) → n ≡ ask (update_questions top f green room) → n ≡ 0 → Workable f.width f.height f.samples green room
-update_workable top f green room n e z =
+pub update_workable : (top : ℕ) (f : Frame) (green : List ℕ) (room : ℕ) → 0 ≡ ask (update_questions top f green room) → Workable f.width f.height f.samples green room
+update_workable top f green room e =
     let count = f.width * f.height in
-    let y = all_yes_split (shape_questions f.width f.height f.layout) (updating_questions top count f.samples green room) (all_yes (update_questions top f green room) tt n e z) in
+    let y = all_yes_split (shape_questions f.width f.height f.layout) (updating_questions top count f.samples green room) (all_yes (update_questions top f green room) tt 0 e refl) in
     record {
       sizes = (shape_is f.width f.height f.layout y.0).sizes;
       samples = eqb-true (length f.samples) count y.1.0;

@@ -3,7 +3,6 @@ use Rattle.std.specs.Prelude.{List, [], ◌∷◌, ◌++◌, ℕ, ◌*◌, eqb, 
 use Rattle.planes.specs.Planes.{Frame, listing, plane_of}
 use Rattle.questions.specs.Questions.{Question, question, all_at_most, shape_questions, samples_question}
 use Rattle.questions.specs.Calls.{Call, plain_call}
-use Rattle.questions.specs.declared.Answer.{Answer}
 use Rattle.work_buffer.specs.Buffer.{zeroed}
 use Rattle.update.specs.Update.{update}
 
@@ -24,5 +23,5 @@ update_list top f green =
     listing f.width f.height (update top f.width f.height f.layout (λ r c. (plane_of 0 f.width f.samples r c, plane_of 0 f.width green r c)))
 
 -- the update call, given frame f, a green plane that held `green` and a work buffer that held `work`: they hold the updated green, and zeros, then
-abbrev pub update_call : ℕ → Frame → List ℕ → List ℤ → Call Answer (List ℕ × List ℤ)
+abbrev pub update_call : ℕ → Frame → List ℕ → List ℤ → Call (Unit {0}) (List ℕ × List ℤ)
 update_call top f green work = plain_call (update_questions top f green (length work)) (update_list top f green, zeroed f.width f.height work) (green, work)

@@ -1,4 +1,5 @@
-// Document 01's green update.
+// Document 01's green update. What a function is told of a colour (its parities, the sizes, the ceiling) goes as numbers, as the laws have them; a list comes with
+// a place in it, and is no part cut from it (docs/DECISIONS.md, "Lent lists").
 #![tactic(auto)]
 
 ghost use Rattle.std.specs.Prelude.{◌≡◌, ◌+◌, ◌*◌, ◌≤◌, ◌<◌, nat_abs, length};
@@ -6,25 +7,24 @@ ghost use Rattle.integers.specs.Lists.{overwrite};
 ghost use Rattle.planes.specs.Planes.{frame, listing, plane_of};
 ghost use Rattle.planes.specs.Lists.{value, sample, put, InRow, InPlane};
 ghost use Rattle.planes.specs.Places.{place};
-ghost use Rattle.questions.specs.Settings.{ceiling};
+ghost use Rattle.questions.specs.Settings.{framed, ceiling};
 ghost use Rattle.questions.specs.Questions.{ask};
-ghost use Rattle.questions.specs.Calls.{Result};
+ghost use Rattle.questions.specs.Refusals.{number_of};
+ghost use Rattle.questions.specs.Calls.{Outcome};
 ghost use Rattle.work_buffer.specs.Buffer.{zeroed, Narrow, Workable};
 ghost use Rattle.update.specs.Update.{put_mixed};
 ghost use Rattle.update.specs.Calls.{update_questions, update_list, update_call};
 ghost use Rattle.update.specs.Places.{with_mixed};
 
-use questions::Answer;
+use questions::{Refusal, Shape};
 
 // Every second sample of a row, n of them from `from` on: into the work buffer, from `to` on.
 fn gather_row(green: &[u16], from: usize, n: usize, work: &mut [i32], to: usize)
     requires { InRow green.now from n 2 × (to + n ≤ length work.old) }
     ensures { work.new ≡ overwrite work.old to n (λ k. sample green.now (from + 2 * k)) }
 {
-    let mut k = 0;
-    while k < n {
-        work[to + k] = work_buffer::widened(green[from + 2 * k]);
-        k += 1;
+    for k in 0..n {
+        work[to + k] = i32::from(green[from + 2 * k]);
     }
 }
 
@@ -33,10 +33,8 @@ fn gather(green: &[u16], from: usize, down: usize, columns: usize, rows: usize, 
     requires { InPlane green.now from columns rows down 2 × (columns * rows ≤ length work.old) }
     ensures { work.new ≡ overwrite work.old 0 (columns * rows) (λ k. sample green.now (place from down columns k)) }
 {
-    let mut i = 0;
-    while i < rows {
+    for i in 0..rows {
         gather_row(green, from + i * down, columns, work, i * columns);
-        i += 1;
     }
 }
 
@@ -45,10 +43,8 @@ fn scatter_row(work: &[i32], at: usize, n: usize, green: &mut [u16], from: usize
     requires { Narrow work.now at n × InRow green.old from n 2 }
     ensures { green.new ≡ put green.old n (λ k. from + 2 * k) (λ k. nat_abs (value work.now (at + k))) }
 {
-    let mut k = 0;
-    while k < n {
+    for k in 0..n {
         green[from + 2 * k] = work_buffer::narrowed(work[at + k]);
-        k += 1;
     }
 }
 
@@ -57,10 +53,8 @@ fn scatter(work: &[i32], columns: usize, rows: usize, green: &mut [u16], from: u
     requires { Narrow work.now 0 (columns * rows) × InPlane green.old from columns rows down 2 }
     ensures { green.new ≡ put green.old (columns * rows) (place from down columns) (λ k. nat_abs (value work.now k)) }
 {
-    let mut i = 0;
-    while i < rows {
+    for i in 0..rows {
         scatter_row(work, i * columns, columns, green, from + i * down);
-        i += 1;
     }
 }
 
@@ -93,63 +87,55 @@ fn update_places(
         height: rows,
         limit: 0,
     };
-    let most = top as i32;
+    let most = i32::from(top);
     gather(green, from, down, columns, rows, work);
     sweep::project(work, mosaic, given, 0, most);
     scatter(work, columns, rows, green, from, down);
 }
 
 // Questions 1, 2, 3, 6, 8, 9 and 10, of samples up to top and a work buffer that has room for so many numbers.
-fn update_refusal(
+fn ask_update(
     top: u16,
-    width: usize,
-    height: usize,
-    layout: u8,
+    shape: Shape,
     mosaic: &[u16],
     green: &[u16],
     room: usize,
-) -> u32
-    ensures { result ≡ ask (update_questions top (frame width height layout mosaic.now) green.now room) }
+) -> Result<(), Refusal>
+    ensures { number_of result ≡ ask (update_questions top (framed shape mosaic.now) green.now room) }
 {
-    let number = questions::shape(width, height, layout);
-    if number != 0 {
-        return number;
-    }
-    let count = width * height;
+    questions::ask_shape(shape)?;
+    let count = shape.width * shape.height;
     if mosaic.len() != count {
-        return 6;
+        return Err(Refusal::GivenLength);
     }
     if green.len() != count {
-        return 6;
+        return Err(Refusal::GivenLength);
     }
     if room < 8 * count {
-        return 8;
+        return Err(Refusal::WorkLength);
     }
     if !questions::samples_within(top, mosaic) {
-        return 9;
+        return Err(Refusal::Sample);
     }
     if !questions::samples_within(top, green) {
-        return 10;
+        return Err(Refusal::PlaneSample);
     }
-    0
+    Ok(())
 }
 
 // Blue places and then red places, and the work buffer zeroed. Red's green is as it was: blue has the other parities.
-fn update_colours(
-    top: u16,
-    width: usize,
-    height: usize,
-    layout: u8,
-    mosaic: &[u16],
-    green: &mut [u16],
-    work: &mut [i32],
-)
-    requires { Workable width height mosaic.now green.old (length work.old) }
-    ensures green_after { green.new ≡ update_list top (frame width height layout mosaic.now) green.old }
-    ensures work_after { work.new ≡ zeroed width height work.old }
+fn update_colours(top: u16, shape: Shape, mosaic: &[u16], green: &mut [u16], work: &mut [i32])
+    requires { Workable shape.width shape.height mosaic.now green.old (length work.old) }
+    ensures green_after { green.new ≡ update_list top (framed shape mosaic.now) green.old }
+    ensures work_after { work.new ≡ zeroed shape.width shape.height work.old }
 {
-    let red_row = (layout / 2 % 2) as usize;
-    let red_column = (layout % 2) as usize;
+    let Shape {
+        width,
+        height,
+        layout,
+    } = shape;
+    let red_row = usize::from(layout / 2 % 2);
+    let red_column = usize::from(layout % 2);
     let blue_row = 1 - red_row;
     let blue_column = 1 - red_column;
     update_places(
@@ -163,25 +149,20 @@ fn update_colours(
         work,
     );
     update_places(top, width, height, red_row, red_column, mosaic, green, work);
-    work_buffer::zero(work, 8 * (width * height));
+    work[..8 * (width * height)].fill(0);
 }
 
 // Updates the green estimate of a mosaic in place. The work buffer's first 8 · width · height numbers are scratch.
 pub fn update(
-    width: usize,
-    height: usize,
-    layout: u8,
+    shape: Shape,
     mosaic: &[u16],
     green: &mut [u16],
     work: &mut [i32],
-) -> Answer
-    ensures { Result (update_call ceiling (frame width height layout mosaic.now) green.old work.old) result (green.new, work.new) }
+) -> Result<(), Refusal>
+    ensures { Outcome (update_call ceiling (framed shape mosaic.now) green.old work.old) result (green.new, work.new) }
 {
     let top = 4095;
-    let refusal = update_refusal(top, width, height, layout, mosaic, green, work.len());
-    if refusal != 0 {
-        return Answer::Refused(refusal);
-    }
-    update_colours(top, width, height, layout, mosaic, green, work);
-    Answer::Accepted
+    ask_update(top, shape, mosaic, green, work.len())?;
+    update_colours(top, shape, mosaic, green, work);
+    Ok(())
 }

@@ -2,7 +2,7 @@
 use mathlib.Core.Path.{◌≡◌, refl, sym, ap, ◌∙◌}
 use mathlib.Core.Bool.{Bool, true, false, ◌&&◌}
 use Prim.Native.Nat.{ℕ, ◌+◌, ◌*◌, ◌≤◌, ◌<◌}
-use native.Mathlib.Nat.{mul-le-mul_left, mul-le-mul_right, mul-one, suc-mul, mul_comm}
+use native.Mathlib.Nat.{mul-le-mul_right, suc-mul, mul_comm}
 use native.Mathlib.Omega.{arith}
 use lib.Dec.{leb, leb→le}
 use borrow.Author.Tests.{le-leb, lt-leb}
@@ -15,12 +15,6 @@ module _ {width samples row column : ℕ} (r : WindowRoom width samples row colu
   row_inside i h =
       let m : (row + i + 1) * width ≤ (row + side) * width = mul-le-mul_right width (omega arith) in
       omega (arith, suc-mul (row + i) width, r.across, r.down)
-
-  -- a plane has at least as many samples as rows
-  pub rows_inside : row + side ≤ samples
-  rows_inside =
-      let m : (row + side) * 1 ≤ (row + side) * width = mul-le-mul_left (row + side) (omega (arith, r.across)) in
-      omega (arith, mul-one (row + side), r.down)
 
 -- ---- question 19
 module _ (width height row column : ℕ) where

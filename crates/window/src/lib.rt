@@ -1,16 +1,9 @@
 // Inner: a plane's samples summed over the spot's window of 32 by 32 places.
 #![tactic(auto)]
 
-ghost use Rattle.std.specs.Prelude.{◌≡◌, ◌+◌, ◌≤◌, ◌<◌, length};
+ghost use Rattle.std.specs.Prelude.{◌≡◌, ◌+◌, ◌≤◌, length};
 ghost use Rattle.planes.specs.Planes.{plane_of};
 ghost use Rattle.window.specs.Window.{window_inside, WindowRoom, WindowSum, RowSum};
-
-// A sample, with room for sums.
-fn wide(x: u16) -> u32
-    ensures { (result ≡ x) × (x < 65536) }
-{
-    x as u32
-}
 
 // A row of the window: 32 samples from place `from` on.
 fn row_sum(plane: &[u16], from: usize) -> u32
@@ -18,10 +11,8 @@ fn row_sum(plane: &[u16], from: usize) -> u32
     ensures { RowSum plane.now from result }
 {
     let mut sum = 0;
-    let mut j = 0;
-    while j < 32 {
-        sum += wide(plane[from + j]);
-        j += 1;
+    for sample in &plane[from..from + 32] {
+        sum += u32::from(*sample);
     }
     sum
 }
@@ -32,15 +23,14 @@ pub fn window_sum(width: usize, plane: &[u16], row: usize, column: usize) -> u32
     ensures { WindowSum (plane_of 0 width plane.now) row column result }
 {
     let mut sum = 0;
-    let mut i = 0;
-    while i < 32 {
+    for i in 0..32 {
         sum += row_sum(plane, (row + i) * width + column);
-        i += 1;
     }
     sum
 }
 
 // Question 19: whether the window lies wholly inside a frame. No sum of row or column is made, which could wrap.
+// Each bound is an `if` of its own, so that the proof has a step with a name for each.
 pub fn inside(width: usize, height: usize, row: usize, column: usize) -> bool
     ensures { result ≡ window_inside width height row column }
 {

@@ -1,20 +1,21 @@
 -- The laws of a plane that stands first in a work buffer. Assumes nothing.
 use mathlib.Core.Path.{◌≡◌, refl, sym, ◌∙◌, ap, subst}
 use mathlib.Core.Bool.{cond, ◌&&◌}
-use mathlib.Core.List.{List}
+use mathlib.Core.List.{List, ◌++◌}
 use Prim.Native.Nat.{ℕ, ◌+◌, ◌*◌, ◌/◌, ◌%◌, ◌≤◌, ◌<◌}
 use native.Mathlib.Nat.{zero-add, div-add-mod'}
 use native.Mathlib.Omega.{arith}
 use lib.Arith.{digits_div, digits_mod}
 use lib.Dec.{T, eqb}
 use lib.IntN.{ℤ, pos, nat_abs}
-use lib.ListN.{get_or, length}
-use lib.Seq.{ext_get_or}
+use lib.ListN.{get_or, length, take, drop, replicate}
+use lib.Seq.{ext_get_or, length-take-le}
 use lib.Signed.{non_neg}
-use Rattle.integers.specs.Lists.{overwrite}
+use Rattle.std.proofs.lemmas.List.{length-replicate, get_or-replicate}
+use Rattle.integers.specs.Lists.{tabulate, overwrite}
 use Rattle.integers.specs.Numbers.{clamp}
 use Rattle.integers.proofs.Clamping.{clamp-sample}
-use Rattle.integers.proofs.Lists.{length-overwrite, overwrite_in, overwrite_at, overwrite_cong, overwrite_again}
+use Rattle.integers.proofs.Lists.{length-tabulate, get_or-tabulate, length-overwrite, overwrite_in, overwrite_at, overwrite_cong, overwrite_again}
 use Rattle.planes.specs.Planes.{plane_of, Agree}
 use Rattle.planes.specs.Lists.{value, sample, put}
 use Rattle.planes.specs.Places.{half, place}
@@ -67,6 +68,17 @@ module _ (w h : ℕ) (work : List ℤ) (room : w * h ≤ length work) where
   pub with_own_plane : work ≡ with_plane w h (plane_of (pos 0) w work) work
   unfolding plane_of
   with_own_plane = with_plane_is (λ r c. value work (r * w + c)) refl (λ k b. ap (value work) (sym (div-add-mod' k w))) (λ k b c. refl)
+
+-- a list's first n elements, filled with x
+pub filled : {A : Type 0} (x : A) (n : ℕ) (l : List A) {m : List A} → n ≤ length l → m ≡ replicate (length (take n l)) x → m ++ drop n l ≡ overwrite l 0 n (λ k. x)
+unfolding overwrite
+filled x n l h e = (λ i. (e ∙ same) i ++ drop (sym (zero-add n) i) l)
+  where
+    same : replicate (length (take n l)) x ≡ tabulate n (λ k. x)
+    same =
+        ap (λ (k : ℕ). replicate k x) (length-take-le n l h)
+        ∙ ext_get_or x (replicate n x) (tabulate n (λ k. x)) (length-replicate n x ∙ sym (length-tabulate n (λ k. x)))
+        (λ k b. let i : k < n = omega (arith, b, length-replicate n x) in get_or-replicate n k x x i ∙ sym (get_or-tabulate n (λ k. x) k x i))
 
 -- zeroed, whatever plane stood in it
 pub zeroed-with_plane : (w h columns rows : ℕ) (p : ℕ → ℕ → ℤ) (work : List ℤ) → columns * rows ≤ 8 * (w * h) → 8 * (w * h) ≤ length work → zeroed w h (with_plane columns rows p work) ≡ zeroed w h work

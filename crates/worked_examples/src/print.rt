@@ -1,32 +1,43 @@
-// Text and numbers on standard output. A write that fails ends the program with its error.
+// Answers on standard output. A write that fails ends the program with its error.
+use questions::{Refusal, Shape};
+use std::fmt::Display;
 use std::io;
+use turns::Turn;
 
-pub(crate) fn text(rt: &impl Print, bytes: &[u8]) -> io::Result<()> {
-    rt.write_all(bytes)
+fn refused(rt: &impl Print, why: Refusal) -> io::Result<()> {
+    print!(rt; "refused {}", why.number())
 }
 
-pub(crate) fn number(rt: &impl Print, n: usize) -> io::Result<()> {
-    rt.print(n)
+// A number that was answered, or a refusal.
+pub(crate) fn number<T: Display + Drop>(
+    rt: &impl Print,
+    answer: Result<T, Refusal>,
+) -> io::Result<()> {
+    match answer {
+        Ok(n) => rt.print(n),
+        Err(why) => refused(rt, why),
+    }
 }
 
-// A number after a space.
-pub(crate) fn spaced(rt: &impl Print, n: usize) -> io::Result<()> {
-    text(rt, b" ")?;
-    number(rt, n)
+pub(crate) fn composed(rt: &impl Print, answer: Result<Turn, Refusal>) -> io::Result<()> {
+    number(rt, answer.map(|turn| turn.number))
 }
 
-pub(crate) fn refused(rt: &impl Print, n: u32) -> io::Result<()> {
-    text(rt, b"refused ")?;
-    number(rt, n as usize)
+pub(crate) fn shape(rt: &impl Print, s: Shape) -> io::Result<()> {
+    print!(rt; "{} by {} layout {}", s.width, s.height, s.layout)
 }
 
-fn sample(rt: &impl Print, x: u16) -> io::Result<()> {
-    spaced(rt, x as usize)
+pub(crate) fn frame(rt: &impl Print, answer: Result<Shape, Refusal>) -> io::Result<()> {
+    match answer {
+        Ok(s) => shape(rt, s),
+        Err(why) => refused(rt, why),
+    }
 }
 
+// Each after a space.
 pub(crate) fn samples(rt: &impl Print, values: &[u16]) -> io::Result<()> {
     for value in values {
-        sample(rt, *value)?;
+        print!(rt; " {value}")?;
     }
     Ok(())
 }

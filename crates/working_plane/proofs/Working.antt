@@ -23,7 +23,7 @@ use Rattle.rings.specs.declared.Given.{Given}
 use Rattle.work_buffer.specs.Buffer.{with_plane, zeroed, Workable}
 use Rattle.work_buffer.proofs.Buffer.{length-with_plane, with_plane_at, with_plane_holds, plane_with, with_plane_agree, with_plane_again, with_own_plane, zeroed-with_plane, loaded}
 use Rattle.working_plane.specs.Rounds.{Round, put_observed, round, working_plane, rewritten}
-use Rattle.working_plane.specs.Colours.{round_of, given, other, KeptTo, KeptPlane}
+use Rattle.working_plane.specs.Colours.{round_of, given, KeptTo, KeptPlane}
 use Rattle.working_plane.specs.declared.Colour.{Colour}
 use Rattle.working_plane.proofs.Repeated.{projected_on_green, round-projected, round_agrees, working_plane_agree, working_plane_hold, sample-kept, sum_kept, kept_far, kept_near, kept_grows}
 
@@ -175,13 +175,6 @@ module _ (two : Bool) (k : Colour) (top : ℕ) (mosaic green plane : List ℕ) (
         held : Agree k.width k.height (plane_of (pos 0) k.width first) Samples
         held r c hr hc = ap (λ (l : List ℤ). plane_of (pos 0) k.width l r c) first_laid ∙ plane_with k.width k.height work room Samples r c hr hc
 
-    pub last_long : length second ≡ length work
-    last_long = ap length last_laid ∙ length-with_plane k.width k.height work room Last
-
-    -- with room for the plane
-    pub last_room : length plane ≤ length second
-    last_room = omega (arith, room, long, last_long)
-
     -- the work buffer has changed only where it will be zeroed
     pub scratched : 8 * (k.width * k.height) ≤ length work → zeroed k.width k.height second ≡ zeroed k.width k.height work
     scratched eight = ap (zeroed k.width k.height) last_laid ∙ zeroed-with_plane k.width k.height k.width k.height Last work (omega arith) eight
@@ -193,19 +186,3 @@ module _ (two : Bool) (k : Colour) (top : ℕ) (mosaic green plane : List ℕ) (
     unloaded e =
         e ∙ ap (λ (m : ℕ). tabulate m (λ i. clipped top (value second i))) long
         ∙ tabulate_cong (k.width * k.height) _ _ (λ i hi. ap (clipped top) (ap (λ (l : List ℤ). value l i) last_laid ∙ with_plane_at k.width k.height work room Last i hi))
-
--- ---- the other colour, which a function answers
-module _ (k : Colour) {b : Colour} (e : b ≡ other k) where
-  -- it has the same sizes, and parities too
-  pub other_workable : (mosaic green : List ℕ) {room room' : ℕ} → room' ≡ room → Workable k.width k.height mosaic green room
-      → Workable b.width b.height mosaic green room' × (b.row < 2) × (b.column < 2)
-  other_workable mosaic green {room} {room'} f u =
-      subst (λ (x : Colour). Workable x.width x.height mosaic green room' × (x.row < 2) × (x.column < 2)) (sym e)
-      (subst (Workable k.width k.height mosaic green) (sym f) u, omega arith, omega arith)
-
-  pub other_area : b.width * b.height ≡ k.width * k.height
-  other_area = λ i. (e i).width * (e i).height
-
-  -- and what is left of the work buffer, zeroed by its sizes, is so by the first colour's
-  pub other-zeroed : (before after : List ℤ) → zeroed b.width b.height after ≡ zeroed b.width b.height before → zeroed k.width k.height after ≡ zeroed k.width k.height before
-  other-zeroed before after = subst (λ (x : Colour). zeroed x.width x.height after ≡ zeroed x.width x.height before) e

@@ -1,19 +1,20 @@
 // Inner: a colour's working plane, which stands first in the work buffer: its samples in and out, and the observed samples put in.
 #![tactic(auto)]
 
-ghost use Rattle.std.specs.Prelude.{◌≡◌, ◌+◌, ◌*◌, ◌≤◌, ◌<◌, pos, length};
+ghost use Rattle.std.specs.Prelude.{◌≡◌, Bool, ◌+◌, ◌*◌, ◌≤◌, ◌<◌, pos, length};
 ghost use Rattle.integers.specs.Numbers.{clipped};
 ghost use Rattle.integers.specs.Lists.{tabulate, overwrite};
 ghost use Rattle.planes.specs.Planes.{Sizes, plane_of};
 ghost use Rattle.planes.specs.Lists.{value, sample, put, InRow, InPlane};
 ghost use Rattle.planes.specs.Places.{place, put_at_places};
 ghost use Rattle.projection.specs.Projection.{limits_of};
-ghost use Rattle.work_buffer.specs.Buffer.{with_plane};
-ghost use Rattle.working_plane.specs.Rounds.{least_kept, most_kept};
-ghost use Rattle.working_plane.specs.Colours.{given, other};
+ghost use Rattle.work_buffer.specs.Buffer.{with_plane, zeroed, Workable};
+ghost use Rattle.working_plane.specs.Rounds.{least_kept, most_kept, working_plane};
+ghost use Rattle.working_plane.specs.Colours.{round_of, given, other, rewritten_list, KeptPlane};
 
 // A colour's places, by the frame's sizes and the parities of the colour's rows and columns; and the threshold. The ceiling goes beside it, a
-// number that the compiler then clips with.
+// number that the compiler then clips with. That the parities are below 2 stays in contracts: `other`, `red_of` and `blue_of` in specs/ make a colour of any
+// numbers, and with that fact in it would have to prove it.
 #[derive(Clone, Copy)]
 pub struct Colour {
     pub width: usize,
@@ -38,6 +39,7 @@ pub fn other(colour: Colour) -> Colour
 }
 
 // What the projection at one level is given of it, and the first level of two.
+#[tactic(auto, unfolding(projection::specs::Projection::limits_of))]
 pub fn given_of(colour: Colour) -> rings::Given
     ensures { result ≡ given colour.width colour.height (limits_of colour.threshold).first }
 {
@@ -48,21 +50,23 @@ pub fn given_of(colour: Colour) -> rings::Given
         across: 1,
         width: colour.width,
         height: colour.height,
-        limit: 16 * work_buffer::widened(colour.threshold),
+        limit: 16 * i32::from(colour.threshold),
     }
 }
 
 // Between rounds a working plane keeps −top..2·top: the two ends of the projection's clip.
+#[tactic(auto, unfolding(crate::specs::Rounds::least_kept))]
 pub fn least_kept(top: u16) -> i32
     ensures { result ≡ least_kept top }
 {
-    0 - work_buffer::widened(top)
+    -i32::from(top)
 }
 
+#[tactic(auto, unfolding(crate::specs::Rounds::most_kept))]
 pub fn most_kept(top: u16) -> i32
     ensures { result ≡ most_kept top }
 {
-    2 * work_buffer::widened(top)
+    2 * i32::from(top)
 }
 
 // A plane's samples into the work buffer's first numbers: the working plane.
@@ -70,10 +74,8 @@ pub fn load(plane: &[u16], work: &mut [i32])
     requires { length plane.now ≤ length work.old }
     ensures { work.new ≡ overwrite work.old 0 (length plane.now) (sample plane.now) }
 {
-    let mut k = 0;
-    while k < plane.len() {
-        work[k] = work_buffer::widened(plane[k]);
-        k += 1;
+    for (k, sample) in plane.iter().enumerate() {
+        work[k] = i32::from(*sample);
     }
 }
 
@@ -82,24 +84,21 @@ pub fn unload(work: &[i32], top: u16, plane: &mut [u16])
     requires { length plane.old ≤ length work.now }
     ensures { plane.new ≡ tabulate (length plane.old) (λ k. clipped top (value work.now k)) }
 {
-    let most = top as i32;
-    let mut k = 0;
-    while k < plane.len() {
-        plane[k] = work_buffer::narrowed(filters::clipped(work[k], 0, most));
-        k += 1;
+    let most = i32::from(top);
+    for (k, sample) in plane.iter_mut().enumerate() {
+        *sample = work_buffer::narrowed(filters::clipped(work[k], 0, most));
     }
 }
 
 // Every second sample of a row, n of them from `from` on, into the same places of the working plane.
+// A list comes with a place in it, and is no part cut from it (docs/DECISIONS.md, "Lent lists").
 fn observe_row(mosaic: &[u16], from: usize, n: usize, work: &mut [i32])
     requires { InRow mosaic.now from n 2 × (length mosaic.now ≤ length work.old) }
     ensures { work.new ≡ put work.old n (λ k. from + 2 * k) (λ k. sample mosaic.now (from + 2 * k)) }
 {
-    let mut k = 0;
-    while k < n {
+    for k in 0..n {
         let at = from + 2 * k;
-        work[at] = work_buffer::widened(mosaic[at]);
-        k += 1;
+        work[at] = i32::from(mosaic[at]);
     }
 }
 
@@ -108,10 +107,8 @@ fn observe(mosaic: &[u16], from: usize, down: usize, columns: usize, rows: usize
     requires { InPlane mosaic.now from columns rows down 2 × (length mosaic.now ≤ length work.old) }
     ensures { work.new ≡ put work.old (columns * rows) (place from down columns) (λ k. sample mosaic.now (place from down columns k)) }
 {
-    let mut i = 0;
-    while i < rows {
+    for i in 0..rows {
         observe_row(mosaic, from + i * down, columns, work);
-        i += 1;
     }
 }
 
@@ -126,4 +123,57 @@ pub fn put_observed(colour: Colour, mosaic: &[u16], work: &mut [i32])
     let columns = (width + 1 - colour.column) / 2;
     let rows = (colour.height + 1 - colour.row) / 2;
     observe(mosaic, first, 2 * width, columns, rows, work);
+}
+
+// One level of the bank, or two: how the rounds of one colour's working plane are run.
+pub trait Level {
+    ghost two: { Bool };
+
+    // So many rounds: the projection on green, and then the observed samples.
+    fn run(colour: Colour, top: u16, rounds: u8, mosaic: &[u16], green: &[u16], work: &mut [i32])
+        requires { Workable colour.width colour.height mosaic.now green.now (length work.old) × (colour.row < 2) × (colour.column < 2) × KeptPlane work.old (colour.width * colour.height) }
+        ensures { work.new ≡ with_plane colour.width colour.height (working_plane rounds (round_of two colour top mosaic.now green.now) (plane_of (pos 0) colour.width work.old)) work.old };
+}
+
+// A colour's plane: loaded, worked on through all rounds, and unloaded once, clipped. It is called twice, so the compiler leaves it by itself: what `run` has on
+// its stack is on the stack of this function, and not on its callers'.
+fn rewrite<L: Level>(
+    colour: Colour,
+    top: u16,
+    rounds: u8,
+    mosaic: &[u16],
+    green: &[u16],
+    plane: &mut [u16],
+    work: &mut [i32],
+)
+    requires { Workable colour.width colour.height mosaic.now green.now (length work.old) × (colour.row < 2) × (colour.column < 2) × (length plane.old ≡ colour.width * colour.height) }
+    ensures plane_after { plane.new ≡ rewritten_list L.two colour top rounds mosaic.now green.now plane.old }
+    ensures work_unchanged { zeroed colour.width colour.height work.new ≡ zeroed colour.width colour.height work.old }
+{
+    load(plane, work);
+    L::run(colour, top, rounds, mosaic, green, work);
+    unload(work, top, plane);
+}
+
+// Red, and then blue. The work buffer's first 8 · width · height numbers are scratch.
+// Lent lists go one by one (docs/DECISIONS.md, "Lent lists").
+pub fn rewrite_both<L: Level>(
+    reds: Colour,
+    top: u16,
+    rounds: u8,
+    mosaic: &[u16],
+    red: &mut [u16],
+    green: &[u16],
+    blue: &mut [u16],
+    work: &mut [i32],
+)
+    requires workable { Workable reds.width reds.height mosaic.now green.now (length work.old) × (reds.row < 2) × (reds.column < 2) }
+    requires red_len { (length red.old ≡ reds.width * reds.height) × (length blue.old ≡ reds.width * reds.height) }
+    ensures red_after { red.new ≡ rewritten_list L.two reds top rounds mosaic.now green.now red.old }
+    ensures blue_after { blue.new ≡ rewritten_list L.two (other reds) top rounds mosaic.now green.now blue.old }
+    ensures work_unchanged { zeroed reds.width reds.height work.new ≡ zeroed reds.width reds.height work.old }
+{
+    let blues = other(reds);
+    rewrite::<L>(reds, top, rounds, mosaic, green, red, work);
+    rewrite::<L>(blues, top, rounds, mosaic, green, blue, work);
 }

@@ -1,26 +1,28 @@
--- `bank::split` meets its contract: one check, one branch, and then the bands.
+-- `bank::split` meets its contract: one check, and then the bands.
 use native.Mathlib.Omega.{arith}
 use lib.ListN.{length}
 use Rattle.questions.proofs.Answering.{refuses, plain_accepts}
 use Rattle.bank.specs.Calls.{bands, split_lists}
+use borrow.Author.Rules.{rules}
+use mathlib.Core.Path.{refl}
 use Rattle.bank.proofs.Calls.{Splittable, splittable}
 use Rattle.bank.proofs.split.Goals as goal
-use Rattle.bank.proofs.split.Goals.{Else-refusal-ne0}
+use Rattle.bank.proofs.split.Goals.{In_ok-ask_split}
 
-pub returns-then-refusal-ne0 : goal.returns-then-refusal-ne0
-returns-then-refusal-ne0 c = refuses c.split_refusal-refusal.ensures c.if-refusal-ne0.true
+pub returns-in_err-ask_split : goal.returns-in_err-ask_split
+returns-in_err-ask_split c = refuses _ (search rules) c.in_err-ask_split.ensures
 
-known : (c : goal.Else-refusal-ne0)
+known : (c : goal.In_ok-ask_split)
     → let a = c.args in Splittable a.width a.height a.plane.now (bands (length a.band1.now) (length a.band2.now) (length a.band3.now) (length a.band4.now))
 known c =
     let a = c.args in
-    splittable a.width a.height a.plane.now _ c.split_refusal-refusal.result c.split_refusal-refusal.ensures c.if-refusal-ne0.false
+    splittable a.width a.height a.plane.now _ c.in_ok-ask_split.ensures
 
 pub split_rows-requires : goal.split_rows-requires
 split_rows-requires c =
-    let k = known (goal.at.split_rows-requires c).Else-refusal-ne0 in
+    let k = known (goal.at.split_rows-requires c).In_ok-ask_split in
     record { sizes = (k.sizes, k.plane); width_in_bounds = (omega (arith, k.sizes.width_to), omega (arith, k.sizes.width_to)); band1_len = (k.room1, k.room2, k.room3, k.room4) }
 
 pub returns : goal.returns
 unfolding split_lists
-returns c = plain_accepts c.split_refusal-refusal.ensures c.if-refusal-ne0.false (λ m. bands (c.split_rows.ensures.band1_after m) (c.split_rows.ensures.band2_after m) (c.split_rows.ensures.band3_after m) (c.split_rows.ensures.band4_after m))
+returns c = plain_accepts c.in_ok-ask_split.ensures refl (λ m. bands (c.split_rows.ensures.band1_after m) (c.split_rows.ensures.band2_after m) (c.split_rows.ensures.band3_after m) (c.split_rows.ensures.band4_after m))

@@ -1,9 +1,8 @@
--- `bank::values_within` meets its contract: nothing is found as long as the values passed are within `most`.
-use mathlib.Core.Path.{◌≡◌, sym, ◌∙◌, ap, subst}
-use mathlib.Core.Bool.{cond}
+-- `bank::values_within` meets its contract: `within` says whether the values passed are.
+use mathlib.Core.Path.{◌≡◌, sym, ◌∙◌, subst}
 use native.Mathlib.Omega.{arith}
 use lib.Dec.{leb}
-use lib.IntN.{ℤ, nat_abs}
+use lib.IntN.{nat_abs}
 use lib.ListN.{length}
 use mir.Syntax.{w32}
 use mir.Val.{to_z, of_z}
@@ -11,27 +10,25 @@ use mir.Facts.{to_z-of_z as back}
 use borrow.Author.Rules.{rules}
 use Rattle.planes.specs.Lists.{value}
 use Rattle.questions.specs.Questions.{all_at_most}
-use Rattle.questions.proofs.Asking.{mark_none, mark_more}
+use Rattle.questions.proofs.Asking.{within_none, within_more}
 use Rattle.filters.specs.Bank.{Distance}
 use Rattle.bank.proofs.Calls.{magnitudes}
 use Rattle.bank.proofs.values_within.Goals as goal
 
-pub loop-i-init : goal.loop-i-init
-loop-i-init c = (omega arith, mark_none _ _)
+pub loop-value-init : goal.loop-value-init
+loop-value-init c = within_none _ _
 
-pub marked-found-requires : goal.marked-found-requires
-marked-found-requires c = subst Distance (sym (back c.ranges.most)) c.requires
+pub is_within-within-requires : goal.is_within-within-requires
+is_within-within-requires c = subst Distance (sym (back c.ranges.most)) c.requires
 
-pub loop-i-preserved : goal.loop-i-preserved
-loop-i-preserved c =
-    let a = c.args in
-    let x = value a.values.now c.loop-i.i in
+pub loop-value-preserved : goal.loop-value-preserved
+loop-value-preserved c =
+    let x = value c.args.values.now c.loop-value.value-index in
     let same : to_z w32 (of_z w32 x) ≡ x = search rules in
-    (omega arith, mark_more (nat_abs (to_z w32 (of_z w32 a.most))) c.loop-i.found c.loop-i.i (λ k. nat_abs (value a.values.now k)) c.loop-i.invariant.1 (c.marked-found.ensures ∙ ap (λ (z : ℤ). cond (leb (nat_abs z) (nat_abs (to_z w32 (of_z w32 a.most)))) c.loop-i.found 1) same))
+    within_more _ c.loop-value.value-index (λ k. nat_abs (value c.args.values.now k)) c.loop-value.invariant (c.is_within-within.ensures ∙ (λ i. leb (nat_abs (same i)) (nat_abs (to_z w32 (of_z w32 c.args.most)))))
 
 pub returns : goal.returns
 returns c =
-    let a = c.args in
-    let v = a.values.now in
-    let all : length v ≡ c.loop-i.i = omega arith in
-    c.loop-i.invariant.1 ∙ (λ m. all_at_most (nat_abs (back c.ranges.most m)) (sym (magnitudes v c.loop-i.i all) m))
+    let v = c.args.values.now in
+    let all : length v ≡ c.loop-value.value-index = omega arith in
+    c.loop-value.invariant ∙ (λ i. all_at_most (nat_abs (back c.ranges.most i)) (sym (magnitudes v c.loop-value.value-index all) i))

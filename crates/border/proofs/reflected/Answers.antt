@@ -25,9 +25,6 @@ long c = let other = c.if-n-eq1.false in omega arith
 rest : (c : goal.Else-n-eq1) → let a = c.args in a.i % (2 * (a.n - 1)) < 2 * (a.n - 1)
 rest c = let l = long c in mod-lt c.args.i (omega arith)
 
-pub overflow_sub-result : goal.overflow_sub-result
-overflow_sub-result c = omega (arith, rest (goal.at.overflow_sub-result c).Else-n-eq1)
-
 pub returns-then-m-n : goal.returns-then-m-n
 returns-then-m-n c = let a = c.args in (sym (reflect_low a.n a.i (long (goal.at.returns-then-m-n c).Else-n-eq1) c.if-m-n.true), c.if-m-n.true)
 

@@ -2,8 +2,8 @@
 use Rattle.demand_3.proofs.Moving.{moved_yes, moved_no}
 use Rattle.demand_3.proofs.turn_between.Goals as goal
 
-pub returns-in-Accepted : goal.returns-in-Accepted
-returns-in-Accepted c = moved_yes c.args.turn c.args.at c.args.from.now c.args.to.now c.turn_samples-turned.ensures c.in-Accepted.is
+pub returns-in-Ok : goal.returns-in-Ok
+returns-in-Ok c = moved_yes c.args.turn c.args.at c.args.from.now c.args.to.now c.turn_samples.ensures c.in-Ok.is
 
-pub returns-in-Refused : goal.returns-in-Refused
-returns-in-Refused c = moved_no c.args.turn c.args.at c.args.from.now c.args.to.now c.turn_samples-turned.ensures c.in-Refused.is
+pub returns-in-Err : goal.returns-in-Err
+returns-in-Err c = moved_no c.args.turn c.args.at c.args.from.now c.args.to.now c.turn_samples.ensures c.in-Err.is

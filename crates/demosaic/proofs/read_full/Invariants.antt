@@ -1,4 +1,4 @@
--- proofs/read_full/Invariants.antt
+-- `demosaic::read_full` meets its contract: each turn reads at least one byte, and what is filled is within `buf`.
 use Rattle.std.proofs.Common.{length, ◌-◌, ◌≤◌}
 use Rattle.demosaic.proofs.read_full.Given as goal
 

@@ -3,4 +3,4 @@ use Rattle.demosaic_c.proofs.Wide.{estimate_returned}
 use Rattle.demosaic_c.proofs.demosaic_estimate.Goals as goal
 
 pub returns : goal.returns
-returns c = estimate_returned _ _ _ _ c.byte-given.ensures _ c.estimate.ensures c.number.ensures
+returns c = estimate_returned _ _ _ _ c.cut_shape-given.ensures _ c.estimate.ensures c.number.ensures

@@ -1,23 +1,24 @@
 -- `demosaic_c::demosaic_spot` meets its contract: that of the call in crate `spot`, the answer taken apart.
-use mathlib.Core.Path.{◌≡◌, ◌∙◌, ap}
+use Rattle.std.proofs.Common.{◌≡◌, sym, ap, ◌*◌}
+use Rattle.planes.specs.Planes.{planes}
 use Rattle.spot.specs.declared.Reading.{Reading}
-use Rattle.spot.specs.declared.SpotAnswer.TheVariants.{Accepted}
-use Rattle.demosaic_c.proofs.Returns.{spot_returned}
+use Rattle.questions.specs.Calls.{Numbered}
+use Rattle.demosaic_c.specs.Pointers.{SpotNumbers, spot_numbers}
+use Rattle.demosaic_c.proofs.Returns.{spot_no, spot_yes, spot_put, put}
 use Rattle.demosaic_c.proofs.demosaic_spot.Goals as goal
-use Rattle.demosaic_c.proofs.demosaic_spot.Goals.{In-Accepted}
+use Rattle.demosaic_c.proofs.demosaic_spot.Goals.{Start}
 
-pub returns-in-Refused : goal.returns-in-Refused
-returns-in-Refused c = spot_returned _ _ _ _ _ _ c.read_spot-answer.ensures _ c.in-Refused.is
+abbrev Before : goal.Start → SpotNumbers
+Before t = let a = t.args in spot_numbers a.spot_red.now a.spot_green.now a.spot_blue.now a.lit.now a.reading.now
 
--- an accepted answer whose reading was seen to be `found`
-seen : (q : goal.In-Accepted) {found : Reading} → q.in-Accepted.found ≡ found → q.read_spot-answer.result ≡ Accepted found q.in-Accepted.field-1
-seen q e = q.in-Accepted.is ∙ ap (λ (x : Reading). Accepted x q.in-Accepted.field-1) e
+pub returns-in-Ok-Starting : goal.returns-in-Ok-Starting
+returns-in-Ok-Starting c = put (ap (spot_put (Before (goal.at.returns-in-Ok-Starting c).Start)) (sym c.in-Ok-Starting.field-0-is)) (spot_yes _ _ _ _ _ _ c.in-Ok-Starting.ensures)
 
-pub returns-in-Starting : goal.returns-in-Starting
-returns-in-Starting c = spot_returned _ _ _ _ _ _ c.read_spot-answer.ensures _ (seen (goal.at.returns-in-Starting c).In-Accepted c.in-Starting.is)
+pub returns-in-Ok-Dark : goal.returns-in-Ok-Dark
+returns-in-Ok-Dark c = put (ap (spot_put (Before (goal.at.returns-in-Ok-Dark c).Start)) (sym c.in-Ok-Dark.field-0-is)) (spot_yes _ _ _ _ _ _ c.in-Ok-Dark.ensures)
 
-pub returns-in-Dark : goal.returns-in-Dark
-returns-in-Dark c = spot_returned _ _ _ _ _ _ c.read_spot-answer.ensures _ (seen (goal.at.returns-in-Dark c).In-Accepted c.in-Dark.is)
+pub returns-in-Ok-Steady : goal.returns-in-Ok-Steady
+returns-in-Ok-Steady c = put (ap (spot_put (Before (goal.at.returns-in-Ok-Steady c).Start)) (sym c.in-Ok-Steady.field-0-is)) (spot_yes _ _ _ _ _ _ c.in-Ok-Steady.ensures)
 
-pub returns-in-Steady : goal.returns-in-Steady
-returns-in-Steady c = spot_returned _ _ _ _ _ _ c.read_spot-answer.ensures _ (seen (goal.at.returns-in-Steady c).In-Accepted c.in-Steady.is)
+pub returns-in-Err : goal.returns-in-Err
+returns-in-Err c = spot_no _ _ _ _ _ _ c.in-Err.ensures c.number.ensures

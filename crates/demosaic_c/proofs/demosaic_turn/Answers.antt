@@ -1,9 +1,12 @@
 -- `demosaic_c::demosaic_turn` meets its contract: the turning call's.
-use Rattle.demosaic_c.proofs.Returns.{frame_returned}
+use Rattle.demosaic_c.specs.Pointers.{shape}
+use Rattle.demosaic_c.proofs.Returns.{frame_no, frame_yes, put}
 use Rattle.demosaic_c.proofs.demosaic_turn.Goals as goal
 
-pub returns-in-Refused : goal.returns-in-Refused
-returns-in-Refused c = frame_returned _ _ _ _ c.byte.ensures c.byte-given.ensures _ _ _ c.turn_samples-answer.ensures _ c.in-Refused.is
+pub returns-in-Ok : goal.returns-in-Ok
+returns-in-Ok c =
+    put (λ i. (c.turn_samples.new.out, shape c.in-Ok.turned.width c.in-Ok.turned.height (c.from.ensures i)))
+    (frame_yes _ _ _ _ c.byte.ensures _ _ _ c.cut_shape-given.ensures c.in-Ok.ensures)
 
-pub returns-in-Accepted : goal.returns-in-Accepted
-returns-in-Accepted c = frame_returned _ _ _ _ c.byte.ensures c.byte-given.ensures _ _ _ c.turn_samples-answer.ensures _ c.in-Accepted.is
+pub returns-in-Err : goal.returns-in-Err
+returns-in-Err c = frame_no _ _ _ _ c.byte.ensures _ _ _ c.cut_shape-given.ensures c.in-Err.ensures c.number.ensures

@@ -1,9 +1,12 @@
 -- `demosaic_c::demosaic_turned_shape` meets its contract: that of the three operations.
-use Rattle.demosaic_c.proofs.Returns.{shape_returned}
+use Rattle.demosaic_c.specs.Pointers.{shape}
+use Rattle.demosaic_c.proofs.Returns.{shape_no, shape_yes, put}
 use Rattle.demosaic_c.proofs.demosaic_turned_shape.Goals as goal
 
-pub returns-in-Refused : goal.returns-in-Refused
-returns-in-Refused c = shape_returned _ _ _ _ c.byte.ensures c.byte-given.ensures _ c.turned_width.ensures c.turned_height.ensures c.turned_layout-answer.ensures _ _ c.places_of-w.ensures c.places_of-h.ensures _ c.in-Refused.is
+pub returns-in-Ok : goal.returns-in-Ok
+returns-in-Ok c =
+    put (λ i. shape c.unwrap_or-w.result c.unwrap_or-h.result (c.from.ensures i))
+    (shape_yes _ _ _ _ c.byte.ensures _ c.cut_shape-given.ensures c.turned_width.ensures c.turned_height.ensures c.unwrap_or-w.ensures c.unwrap_or-h.ensures c.in-Ok.ensures)
 
-pub returns-in-Layout : goal.returns-in-Layout
-returns-in-Layout c = shape_returned _ _ _ _ c.byte.ensures c.byte-given.ensures _ c.turned_width.ensures c.turned_height.ensures c.turned_layout-answer.ensures _ _ c.places_of-w.ensures c.places_of-h.ensures _ c.in-Layout.is
+pub returns-in-Err : goal.returns-in-Err
+returns-in-Err c = shape_no _ _ _ _ c.byte.ensures _ c.cut_shape-given.ensures c.in-Err.ensures c.number.ensures

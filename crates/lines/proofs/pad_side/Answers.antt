@@ -4,11 +4,9 @@ use mathlib.Core.List.{List}
 use Prim.Native.Nat.{ℕ, ◌+◌}
 use native.Mathlib.Omega.{arith}
 use lib.IntN.{ℤ}
-use lib.ListN.{length-set}
 use mir.Syntax.{w32}
 use mir.Val.{to_z, of_z}
 use borrow.Author.Rules.{rules}
-use Rattle.integers.specs.Lists.{overwrite}
 use Rattle.integers.proofs.Lists.{overwrite_none, overwrite_step}
 use Rattle.planes.specs.Lists.{value}
 use Rattle.lines.specs.Lines.{meant}
@@ -21,10 +19,7 @@ abbrev Side : goal.Start → ℕ → ℤ
 Side s = let a = s.args in λ j. value a.line.now (meant a.n a.pad (a.from + j))
 
 pub loop-k-init : goal.loop-k-init
-loop-k-init c = (omega arith, overwrite_none c.args.line.now c.args.from (Side c), refl)
-
-pub reflected_before-requires : goal.reflected_before-requires
-reflected_before-requires c = (omega arith, omega arith)
+loop-k-init c = overwrite_none c.args.line.now c.args.from (Side c)
 
 pub loop-k-preserved : goal.loop-k-preserved
 unfolding meant
@@ -33,16 +28,5 @@ loop-k-preserved c =
     let r = c.reflected_before in
     let k = c.loop-k.k in
     let x = value c.loop-k.line (a.pad + r.result) in
-    let same : to_z w32 (of_z w32 x) ≡ x = search rules in (
-      omega arith,
-      overwrite_step a.line.now a.from k (Side (goal.at.loop-k-preserved c).Start) (a.from + k) refl c.loop-k.invariant.1 (same ∙ ap (λ (m : List ℤ). value m (a.pad + r.result)) c.loop-k.invariant.1 ∙ outside a.line.now a.from k (Side (goal.at.loop-k-preserved c).Start) (a.pad + r.result) (omega arith) (λ h. omega (arith, c.requires.by_index r.result r.ensures.1 h)) ∙ ap (λ (j : ℕ). value a.line.now (a.pad + j)) r.ensures.0) (omega arith),
-      simp length-set c.loop-k.invariant.2,
-    )
-
-pub shape_of-line : goal.shape_of-line
-shape_of-line c = c.loop-k.invariant.2
-
-pub returns : goal.returns
-returns c =
-    let all : c.loop-k.k ≡ c.args.pad = omega arith in
-    c.loop-k.invariant.1 ∙ ap (λ (k : ℕ). overwrite c.args.line.now c.args.from k (Side (goal.at.returns c).Start)) all
+    let same : to_z w32 (of_z w32 x) ≡ x = search rules in
+    overwrite_step a.line.now a.from k (Side (goal.at.loop-k-preserved c).Start) (a.from + k) refl c.loop-k.invariant (same ∙ ap (λ (m : List ℤ). value m (a.pad + r.result)) c.loop-k.invariant ∙ outside a.line.now a.from k (Side (goal.at.loop-k-preserved c).Start) (a.pad + r.result) (omega arith) (λ h. omega (arith, c.requires.by_index r.result r.ensures.1 h)) ∙ ap (λ (j : ℕ). value a.line.now (a.pad + j)) r.ensures.0) (omega arith)

@@ -1,14 +1,10 @@
 -- `lines::pad_side` meets its contract: after k turns, k places of the side are laid down, and the middle is as it was.
 use mathlib.Core.Path.{◌≡◌}
-use Prim.Native.Nat.{◌+◌, ◌-◌, ◌≤◌}
-use lib.ListN.{length}
+use Prim.Native.Nat.{◌+◌}
 use Rattle.integers.specs.Lists.{overwrite}
 use Rattle.planes.specs.Lists.{value}
 use Rattle.lines.specs.Lines.{meant}
 use Rattle.lines.proofs.pad_side.Given as goal
 
 abbrev pub invariant-loop-k : goal.invariant-loop-k
-invariant-loop-k l = (l.k ≤ l.pad) × (l.line ≡ overwrite l.initial.line l.from l.k (λ j. value l.initial.line (meant l.n l.pad (l.from + j)))) × (length l.line ≡ length l.initial.line)
-
-abbrev pub decreases-loop-k : goal.decreases-loop-k
-decreases-loop-k l = l.pad - l.k
+invariant-loop-k l = l.line ≡ overwrite l.initial.line l.from l.k (λ j. value l.initial.line (meant l.n l.pad (l.from + j)))

@@ -1,13 +1,10 @@
 -- `little_endian::write_samples` meets its contract: the samples that are left, written, make what is promised.
 use mathlib.Core.Path.{◌≡◌}
-use Prim.Native.Nat.{◌*◌, ◌-◌, ◌≤◌}
-use lib.ListN.{length, drop}
+use Prim.Native.Nat.{◌*◌}
+use lib.ListN.{drop}
 use lib.Seq.{sets}
 use Rattle.little_endian.specs.Bytes.{sample_bytes}
 use Rattle.little_endian.proofs.write_samples.Given as goal
 
 abbrev pub invariant-loop-k : goal.invariant-loop-k
-invariant-loop-k l = (l.k ≤ length l.samples) × (sets l.out (2 * l.k) (sample_bytes (drop l.k l.samples)) ≡ sets l.initial.out 0 (sample_bytes l.samples)) × (length l.out ≡ length l.initial.out)
-
-abbrev pub decreases-loop-k : goal.decreases-loop-k
-decreases-loop-k l = length l.samples - l.k
+invariant-loop-k l = sets l.out (2 * l.k) (sample_bytes (drop l.k l.samples)) ≡ sets l.initial.out 0 (sample_bytes l.samples)

@@ -1,14 +1,12 @@
 -- `merging::add_low` meets its contract: after k turns, k places of both are laid down.
-use mathlib.Core.Path.{◌≡◌, refl, ◌∙◌, ap}
+use mathlib.Core.Path.{refl, ◌∙◌}
 use Prim.Native.Nat.{ℕ, ◌+◌, ◌≤◌, ◌<◌}
 use native.Mathlib.Omega.{arith}
 use lib.Dec.{lit<}
 use lib.IntN.{ℤ, nat_abs, ◌+ℤ◌, ◌-ℤ◌}
-use lib.ListN.{length-set}
 use mir.Syntax.{w32}
 use mir.Val.{to_z, of_z}
 use mir.Facts.{to_z-of_z as back}
-use Rattle.integers.specs.Lists.{overwrite}
 use Rattle.integers.proofs.Lists.{overwrite_none, overwrite_step}
 use Rattle.integers.proofs.Bounds.{fits, bounds, read_is, read_bound}
 use Rattle.planes.specs.Lists.{value}
@@ -32,10 +30,7 @@ unfolding gain low_join
 low_small c = read_bound w32 c.low_at-low.ensures (five_range low_join c.requires.runs.0 c.loop-k.k (omega arith))
 
 pub loop-k-init : goal.loop-k-init
-loop-k-init c = let a = c.args in (omega arith, overwrite_none a.apart.now a.at (Away c), overwrite_none a.together.now a.at (Added c), refl, refl)
-
-pub low_at-low-requires : goal.low_at-low-requires
-low_at-low-requires c = (c.requires.runs.0, omega arith)
+loop-k-init c = let a = c.args in (overwrite_none a.apart.now a.at (Away c), overwrite_none a.together.now a.at (Added c))
 
 pub overflow_sub-apart : goal.overflow_sub-apart
 overflow_sub-apart c =
@@ -54,20 +49,6 @@ unfolding low_away low_added
 loop-k-preserved c =
     let i : c.loop-k.k < c.args.n = omega arith in
     let o = read_is w32 c.low_at-low.type_inv c.low_at-low.ensures in (
-      omega arith,
-      overwrite_step c.args.apart.now c.args.at c.loop-k.k (Away (goal.at.loop-k-preserved c).Start) (c.args.at + c.loop-k.k) refl c.loop-k.invariant.1 (back (overflow_sub-apart (goal.at.loop-k-preserved c).After-apart-1) ∙ (λ j. read_value (lit< tt) c.requires.runs.1 c.loop-k.k i j -ℤ o j)) (omega arith),
-      overwrite_step c.args.together.now c.args.at c.loop-k.k (Added (goal.at.loop-k-preserved c).Start) (c.args.at + c.loop-k.k) refl c.loop-k.invariant.2 (back (overflow_add-together-in-loop-k-2 c) ∙ (λ j. read_value (lit< tt) c.requires.runs.2 c.loop-k.k i j +ℤ o j)) (omega arith),
-      simp length-set c.loop-k.invariant.3,
-      simp length-set c.loop-k.invariant.4,
+      overwrite_step c.args.apart.now c.args.at c.loop-k.k (Away (goal.at.loop-k-preserved c).Start) (c.args.at + c.loop-k.k) refl c.loop-k.invariant.0 (back (overflow_sub-apart (goal.at.loop-k-preserved c).After-apart-1) ∙ (λ j. read_value (lit< tt) c.requires.runs.1 c.loop-k.k i j -ℤ o j)) (omega arith),
+      overwrite_step c.args.together.now c.args.at c.loop-k.k (Added (goal.at.loop-k-preserved c).Start) (c.args.at + c.loop-k.k) refl c.loop-k.invariant.1 (back (overflow_add-together-in-loop-k-2 c) ∙ (λ j. read_value (lit< tt) c.requires.runs.2 c.loop-k.k i j +ℤ o j)) (omega arith),
     )
-
-pub shape_of-apart : goal.shape_of-apart
-shape_of-apart c = c.loop-k.invariant.3
-
-pub shape_of-together : goal.shape_of-together
-shape_of-together c = c.loop-k.invariant.4
-
-pub returns : goal.returns
-returns c =
-    let all : c.loop-k.k ≡ c.args.n = omega arith in
-    record { apart_after = c.loop-k.invariant.1 ∙ ap (λ (k : ℕ). overwrite c.args.apart.now c.args.at k (Away (goal.at.returns c).Start)) all; together_after = c.loop-k.invariant.2 ∙ ap (λ (k : ℕ). overwrite c.args.together.now c.args.at k (Added (goal.at.returns c).Start)) all }

@@ -1,13 +1,11 @@
 -- `merging::band_line` meets its contract: after k turns, k places are laid down.
-use mathlib.Core.Path.{◌≡◌, refl, ◌∙◌, ap}
+use mathlib.Core.Path.{refl, ◌∙◌}
 use Prim.Native.Nat.{ℕ, ◌+◌, ◌*◌, ◌<◌}
 use native.Mathlib.Omega.{arith}
 use lib.Dec.{lit<}
 use lib.IntN.{ℤ}
-use lib.ListN.{length-set}
 use mir.Syntax.{w32}
 use borrow.Author.Rules.{rules}
-use Rattle.integers.specs.Lists.{overwrite}
 use Rattle.integers.proofs.Lists.{overwrite_none, overwrite_step}
 use Rattle.integers.proofs.Bounds.{read_is}
 use Rattle.filters.specs.Bank.{low_split}
@@ -21,7 +19,7 @@ abbrev Laid : goal.Start → ℕ → ℤ
 Laid s = let a = s.args in three low_split a.line.now 0 a.d (2 * a.d)
 
 pub loop-k-init : goal.loop-k-init
-loop-k-init c = let a = c.args in (omega arith, overwrite_none a.out.now a.at (Laid c), refl)
+loop-k-init c = let a = c.args in overwrite_none a.out.now a.at (Laid c)
 
 pub low_split-requires : goal.low_split-requires
 low_split-requires c =
@@ -30,16 +28,5 @@ low_split-requires c =
 
 pub loop-k-preserved : goal.loop-k-preserved
 loop-k-preserved c =
-    let i : c.loop-k.k < c.args.n = omega arith in (
-      omega arith,
-      overwrite_step c.args.out.now c.args.at c.loop-k.k (Laid (goal.at.loop-k-preserved c).Start) (c.args.at + c.loop-k.k) refl c.loop-k.invariant.1 (read_is w32 c.low_split.type_inv c.low_split.ensures ∙ triple_read low_split c.requires.0 c.loop-k.k i (lit< tt)) (omega arith),
-      simp length-set c.loop-k.invariant.2,
-    )
-
-pub shape_of-out : goal.shape_of-out
-shape_of-out c = c.loop-k.invariant.2
-
-pub returns : goal.returns
-returns c =
-    let all : c.loop-k.k ≡ c.args.n = omega arith in
-    c.loop-k.invariant.1 ∙ ap (λ (k : ℕ). overwrite c.args.out.now c.args.at k (Laid (goal.at.returns c).Start)) all
+    let i : c.loop-k.k < c.args.n = omega arith in
+    overwrite_step c.args.out.now c.args.at c.loop-k.k (Laid (goal.at.loop-k-preserved c).Start) (c.args.at + c.loop-k.k) refl c.loop-k.invariant (read_is w32 c.low_split.type_inv c.low_split.ensures ∙ triple_read low_split c.requires.0 c.loop-k.k i (lit< tt)) (omega arith)

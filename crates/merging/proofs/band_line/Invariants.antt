@@ -1,14 +1,10 @@
 -- `merging::band_line` meets its contract: after k turns, k places are laid down.
 use mathlib.Core.Path.{◌≡◌}
-use Prim.Native.Nat.{◌*◌, ◌-◌, ◌≤◌}
-use lib.ListN.{length}
+use Prim.Native.Nat.{◌*◌}
 use Rattle.integers.specs.Lists.{overwrite}
 use Rattle.filters.specs.Bank.{low_split}
 use Rattle.lines.specs.Lines.{three}
 use Rattle.merging.proofs.band_line.Given as goal
 
 abbrev pub invariant-loop-k : goal.invariant-loop-k
-invariant-loop-k l = (l.k ≤ l.n) × (l.out ≡ overwrite l.initial.out l.at l.k (three low_split l.line 0 l.d (2 * l.d))) × (length l.out ≡ length l.initial.out)
-
-abbrev pub decreases-loop-k : goal.decreases-loop-k
-decreases-loop-k l = l.n - l.k
+invariant-loop-k l = l.out ≡ overwrite l.initial.out l.at l.k (three low_split l.line 0 l.d (2 * l.d))

@@ -6,16 +6,13 @@ use native.Mathlib.Omega.{arith}
 use native.Mathlib.Nat.{le_trans, zero-add}
 use lib.Dec.{lit<}
 use lib.IntN.{ℤ, pos, nat_abs}
-use lib.ListN.{length-set}
 use mir.Syntax.{w32}
 use mir.Val.{to_z, of_z}
-use mir.Facts.{to_z-of_z as back}
-use Rattle.integers.specs.Lists.{overwrite}
 use Rattle.integers.proofs.Lists.{overwrite_none, overwrite_step, overwrite-after}
 use Rattle.integers.proofs.Bounds.{read_is, read_bound, abs_read}
 use Rattle.planes.specs.Lists.{value}
 use Rattle.lines.proofs.Lines.{read_small, read_value}
-use Rattle.details.proofs.Details.{crossing_range, crossing_wider}
+use Rattle.details.proofs.Details.{crossing_range}
 use Rattle.nested_floor.specs.NestedFloor.{settled_two}
 use Rattle.merging.specs.Merging.{settled_place}
 use Rattle.merging.proofs.settle_line.Goals as goal
@@ -27,13 +24,10 @@ Laid s = let a = s.args in settled_place (to_z w32 (of_z w32 a.least)) (to_z w32
 
 -- the place that is next is as it was
 untouched : (l : goal.At-loop-k) → l.loop-k.k < l.args.n → value l.loop-k.own (l.args.at + l.loop-k.k) ≡ value l.args.own.now (l.args.at + l.loop-k.k)
-untouched l i = ap (λ (x : List ℤ). value x (l.args.at + l.loop-k.k)) l.loop-k.invariant.1 ∙ overwrite-after l.args.own.now l.args.at l.loop-k.k (Laid l.before) (l.args.at + l.loop-k.k) (pos 0) (omega (arith, l.requires.0.inside)) (omega arith)
+untouched l i = ap (λ (x : List ℤ). value x (l.args.at + l.loop-k.k)) l.loop-k.invariant ∙ overwrite-after l.args.own.now l.args.at l.loop-k.k (Laid l.before) (l.args.at + l.loop-k.k) (pos 0) (omega (arith, l.requires.0.inside)) (omega arith)
 
 pub loop-k-init : goal.loop-k-init
-loop-k-init c = let a = c.args in (omega arith, overwrite_none a.own.now a.at (Laid c), refl)
-
-pub crossed_at-sum-requires : goal.crossed_at-sum-requires
-crossed_at-sum-requires c = (crossing_wider (omega arith) c.requires.1, omega arith)
+loop-k-init c = let a = c.args in overwrite_none a.own.now a.at (Laid c)
 
 pub settle-requires : goal.settle-requires
 settle-requires c =
@@ -49,17 +43,5 @@ loop-k-preserved c =
     let i : k < a.n = omega arith in
     let v : to_z w32 (of_z w32 (value c.loop-k.own (a.at + k))) ≡ value a.own.now (a.at + k) = ap (λ z. to_z w32 (of_z w32 z)) (untouched (goal.at.loop-k-preserved c).At-loop-k i) ∙ read_value (lit< tt) c.requires.0 k i in
     let q = read_is w32 c.crossed_at-sum.type_inv c.crossed_at-sum.ensures in
-    let t : to_z w32 (of_z w32 (value a.small.now k)) ≡ value a.small.now k = subst (λ (j : ℕ). to_z w32 (of_z w32 (value a.small.now j)) ≡ value a.small.now j) (zero-add k) (read_value (lit< tt) c.requires.2 k i) in (
-      omega arith,
-      overwrite_step a.own.now a.at k (Laid (goal.at.loop-k-preserved c).Start) (a.at + k) refl c.loop-k.invariant.1 (read_is w32 c.settle.type_inv c.settle.ensures ∙ (λ j. settled_two (to_z w32 (of_z w32 a.least)) (to_z w32 (of_z w32 a.most)) (v j) (q j) (t j))) (omega (arith, c.requires.0.inside)),
-      simp length-set c.loop-k.invariant.2,
-    )
-
-pub shape_of-own : goal.shape_of-own
-shape_of-own c = c.loop-k.invariant.2
-
-pub returns : goal.returns
-returns c =
-    let a = c.args in
-    let all : c.loop-k.k ≡ a.n = omega arith in
-    c.loop-k.invariant.1 ∙ (λ j. overwrite a.own.now a.at (all j) (settled_place (back c.ranges.least j) (back c.ranges.most j) a.own.now a.at a.apart.now a.together.now a.starts a.small.now))
+    let t : to_z w32 (of_z w32 (value a.small.now k)) ≡ value a.small.now k = subst (λ (j : ℕ). to_z w32 (of_z w32 (value a.small.now j)) ≡ value a.small.now j) (zero-add k) (read_value (lit< tt) c.requires.2 k i) in
+    overwrite_step a.own.now a.at k (Laid (goal.at.loop-k-preserved c).Start) (a.at + k) refl c.loop-k.invariant (read_is w32 c.settle.type_inv c.settle.ensures ∙ (λ j. settled_two (to_z w32 (of_z w32 a.least)) (to_z w32 (of_z w32 a.most)) (v j) (q j) (t j))) (omega (arith, c.requires.0.inside))

@@ -1,13 +1,8 @@
 -- `merging::settle_line` meets its contract: after k turns, k places are laid down.
 use mathlib.Core.Path.{◌≡◌}
-use Prim.Native.Nat.{◌-◌, ◌≤◌}
-use lib.ListN.{length}
 use Rattle.integers.specs.Lists.{overwrite}
 use Rattle.merging.specs.Merging.{settled_place}
 use Rattle.merging.proofs.settle_line.Given as goal
 
 abbrev pub invariant-loop-k : goal.invariant-loop-k
-invariant-loop-k l = (l.k ≤ l.n) × (l.own ≡ overwrite l.initial.own l.at l.k (settled_place l.least l.most l.initial.own l.at l.apart l.together l.starts l.small)) × (length l.own ≡ length l.initial.own)
-
-abbrev pub decreases-loop-k : goal.decreases-loop-k
-decreases-loop-k l = l.n - l.k
+invariant-loop-k l = l.own ≡ overwrite l.initial.own l.at l.k (settled_place l.least l.most l.initial.own l.at l.apart l.together l.starts l.small)

@@ -7,19 +7,15 @@ use lib.ListN.{get_or}
 use mir.Syntax.{w32}
 use Rattle.integers.specs.Numbers.{rounded, clamp}
 use Rattle.integers.specs.Lists.{tabulate}
-use Rattle.integers.proofs.Bounds.{read_is, read_bound}
+use Rattle.integers.proofs.Bounds.{read_is}
 use Rattle.neighbourhood.specs.Inner.{line_of}
 use Rattle.neighbourhood.specs.Place.{eight_greens, hamilton_adams}
-use Rattle.neighbourhood.proofs.Arithmetic.{size}
 use Rattle.neighbourhood.proofs.Places.{lines_of}
 use Rattle.neighbourhood.proofs.green_estimate.Goals as goal
 
 pub eight_greens-requires : goal.eight_greens-requires
 unfolding line_of tabulate
 eight_greens-requires c = sym (ap (λ (l : List ℕ). line_of l (pos 0)) c.middle_column.ensures)
-
-pub clipped_eighth-requires : goal.clipped_eighth-requires
-clipped_eighth-requires c = read_bound w32 c.eight_greens.ensures.is (size c.eight_greens.ensures)
 
 pub returns : goal.returns
 unfolding hamilton_adams

@@ -7,6 +7,4 @@ use Rattle.neighbourhood.proofs.of_four.Goals as goal
 
 pub returns : goal.returns
 unfolding of_four
-returns c =
-    let a = c.args in
-    omega (arith, c.wide.ensures.0, c.wide-2.ensures.0, c.wide-3.ensures.0, c.wide-4.ensures.0, rounded_pos 4 (a.a + a.b + a.c + a.d))
+returns c = let a = c.args in omega (arith, rounded_pos 4 (a.a + a.b + a.c + a.d))

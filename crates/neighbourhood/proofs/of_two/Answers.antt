@@ -7,6 +7,4 @@ use Rattle.neighbourhood.proofs.of_two.Goals as goal
 
 pub returns : goal.returns
 unfolding of_two
-returns c =
-    let a = c.args in
-    omega (arith, c.wide.ensures.0, c.wide-2.ensures.0, rounded_pos 2 (a.a + a.b))
+returns c = omega (arith, rounded_pos 2 (c.args.a + c.args.b))

@@ -1,34 +1,29 @@
 -- `packet::read_mosaic` meets its contract.
-use mathlib.Core.Path.{refl, ap, sym, ◌∙◌}
+use mathlib.Core.Path.{◌≡◌, ap, sym, ◌∙◌}
 use Prim.Native.Nat.{ℕ, ◌*◌}
 use lib.ListN.{length}
 use Rattle.questions.proofs.Answering.{refuses, accepts}
 use Rattle.little_endian.specs.Bytes.{samples_in}
-use Rattle.packet.specs.declared.ReadPacket.TheVariants.{Sound}
-use Rattle.packet.proofs.Stores.{FillingPacket, filling, length_part}
+use Rattle.std.proofs.Common.{Ok, rules}
+use Rattle.packet.specs.Packet.{fields_of, sample_part}
+use Rattle.packet.proofs.Stores.{filling, length_part}
 use Rattle.packet.proofs.read_mosaic.Goals as goal
-use Rattle.packet.proofs.read_mosaic.Goals.{Else-number-ne0}
+use Rattle.packet.proofs.read_mosaic.Goals.{After-samples}
 
-pub returns-then-number-ne0 : goal.returns-then-number-ne0
-returns-then-number-ne0 c = refuses c.mosaic_refusal-number.ensures c.if-number-ne0.true
+pub returns-in_err-packet : goal.returns-in_err-packet
+returns-in_err-packet c = refuses _ (search rules) c.in_err-packet.ensures.number
 
-known : (c : goal.Else-number-ne0) → let a = c.args in FillingPacket a.store.now (length a.mosaic.now)
-known c =
-    let a = c.args in
-    filling a.store.now (length a.mosaic.now) _ c.mosaic_refusal-number.ensures c.if-number-ne0.false
-
-pub sample_part-requires : goal.sample_part-requires
-sample_part-requires c = (known c).packet.at.asked
+part : (c : goal.After-samples) → c.samples.result.now ≡ sample_part c.args.store.now
+part c = c.samples.ensures ∙ ap sample_part c.in_ok-packet.ensures.of_store
 
 pub read_samples-requires : goal.read_samples-requires
 read_samples-requires c =
-    let k = known (goal.at.read_samples-requires c).Else-number-ne0 in
-    ap length c.sample_part.ensures ∙ length_part c.args.store.now k.packet.at ∙ ap (λ (n : ℕ). 2 * n) (sym k.fit)
-
-pub trailer_fields-requires : goal.trailer_fields-requires
-trailer_fields-requires c = (known (goal.at.trailer_fields-requires c).Else-number-ne0).packet.at.long
+    let a = c.args in
+    let k = filling a.store.now (length a.mosaic.now) c.in_ok-packet.ensures.number in
+    ap length (part (goal.at.read_samples-requires c).After-samples) ∙ length_part a.store.now k.packet.at ∙ ap (λ (n : ℕ). 2 * n) (sym k.fit)
 
 pub returns : goal.returns
 returns c =
-    accepts c.mosaic_refusal-number.ensures c.if-number-ne0.false refl (ap Sound c.trailer_fields.ensures)
-    (c.read_samples.ensures ∙ ap samples_in c.sample_part.ensures)
+    let found = c.in_ok-packet.ensures in
+    accepts found.number (ap (λ f. Ok f) (c.fields.ensures ∙ ap fields_of found.of_store))
+    (c.read_samples.ensures ∙ ap samples_in (part (goal.at.returns c).After-samples))

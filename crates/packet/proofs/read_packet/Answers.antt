@@ -1,16 +1,11 @@
 -- `packet::read_packet` meets its contract.
-use Rattle.packet.proofs.Stores.{SoundPacket, sound, read_no, read_yes}
+use Rattle.std.proofs.Common.{rules, ap, ◌∙◌, Ok}
+use Rattle.questions.proofs.Answering.{answer_no, answer_yes}
+use Rattle.packet.specs.Packet.{fields_of}
 use Rattle.packet.proofs.read_packet.Goals as goal
-use Rattle.packet.proofs.read_packet.Goals.{Else-number-ne0}
 
-pub returns-then-number-ne0 : goal.returns-then-number-ne0
-returns-then-number-ne0 c = read_no c.args.store.now _ c.packet_refusal-number.ensures c.if-number-ne0.true
-
-known : (c : goal.Else-number-ne0) → SoundPacket c.args.store.now
-known c = sound c.args.store.now _ c.packet_refusal-number.ensures c.if-number-ne0.false
-
-pub trailer_fields-requires : goal.trailer_fields-requires
-trailer_fields-requires c = (known c).at.long
+pub returns-in_err-packet : goal.returns-in_err-packet
+returns-in_err-packet c = answer_no _ (search rules) c.in_err-packet.ensures.number
 
 pub returns : goal.returns
-returns c = read_yes c.args.store.now _ c.packet_refusal-number.ensures c.if-number-ne0.false _ c.trailer_fields.ensures
+returns c = answer_yes c.in_ok-packet.ensures.number (ap (λ f. Ok f) (c.fields.ensures ∙ ap fields_of c.in_ok-packet.ensures.of_store))

@@ -1,30 +1,28 @@
 -- `packet::write_packet` meets its contract.
-use mathlib.Core.Path.{refl}
-use native.Mathlib.Omega.{arith}
-use lib.ListN.{length}
+use Rattle.std.proofs.Common.{rules, refl, ap, ℕ, Ok, arith, length}
 use Rattle.questions.proofs.Answering.{refuses, accepts}
 use Rattle.packet.proofs.Writing.{Writable, writable, packet_laid, bytes_written}
 use Rattle.packet.proofs.write_packet.Goals as goal
-use Rattle.packet.proofs.write_packet.Goals.{Else-refusal-ne0}
+use Rattle.packet.proofs.write_packet.Goals.{In_ok-ask_write}
 
-pub returns-then-refusal-ne0 : goal.returns-then-refusal-ne0
-returns-then-refusal-ne0 c = refuses c.write_refusal-refusal.ensures (λ z. omega (arith, z, c.if-refusal-ne0.true))
+pub returns-in_err-ask_write : goal.returns-in_err-ask_write
+returns-in_err-ask_write c = refuses _ (search rules) c.in_err-ask_write.ensures
 
-known : (c : goal.Else-refusal-ne0) → let a = c.args in Writable a.f a.samples.now (length a.out.now)
+known : (c : goal.In_ok-ask_write) → let a = c.args in Writable a.f a.samples.now (length a.out.now)
 known c =
     let a = c.args in
-    writable a.f a.samples.now (length a.out.now) _ c.write_refusal-refusal.ensures (omega (arith, c.if-refusal-ne0.false))
+    writable a.f a.samples.now (length a.out.now) c.in_ok-ask_write.ensures
 
 pub write_samples-requires : goal.write_samples-requires
-write_samples-requires c = let k = known (goal.at.write_samples-requires c).Else-refusal-ne0 in omega (arith, k.given, k.fit)
+write_samples-requires c = let k = known (goal.at.write_samples-requires c).In_ok-ask_write in omega (arith, k.given, k.fit)
 
 pub put_trailer-requires : goal.put_trailer-requires
 put_trailer-requires c =
-    let k = known (goal.at.put_trailer-requires c).Else-refusal-ne0 in
+    let k = known (goal.at.put_trailer-requires c).In_ok-ask_write in
     record { at_in_bounds = omega (arith, k.given, k.fit, c.write_samples.auto.out); back_value = omega (arith, k.given) }
 
 pub returns : goal.returns
 returns c =
     let a = c.args in
-    accepts c.write_refusal-refusal.ensures (omega (arith, c.if-refusal-ne0.false)) refl (bytes_written a.f a.samples.now _ (known (goal.at.returns c).Else-refusal-ne0) refl)
-    (packet_laid a.f a.samples.now a.out.now _ (known (goal.at.returns c).Else-refusal-ne0) refl c.write_samples.ensures c.put_trailer.ensures)
+    accepts c.in_ok-ask_write.ensures (ap (λ (n : ℕ). Ok n) (bytes_written a.f a.samples.now _ (known (goal.at.returns c).In_ok-ask_write) refl))
+    (packet_laid a.f a.samples.now a.out.now _ (known (goal.at.returns c).In_ok-ask_write) refl c.write_samples.ensures c.put_trailer.ensures)

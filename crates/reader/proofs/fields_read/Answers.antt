@@ -2,8 +2,8 @@
 use Rattle.reader.proofs.Parts.{sound_fields, refused_fields}
 use Rattle.reader.proofs.fields_read.Goals as goal
 
-pub returns-in-Sound : goal.returns-in-Sound
-returns-in-Sound c = sound_fields _ c.read_packet.ensures _ c.in-Sound.is
+pub returns-in-Ok : goal.returns-in-Ok
+returns-in-Ok c = sound_fields _ _ c.in-Ok.ensures
 
-pub returns-in-Refused : goal.returns-in-Refused
-returns-in-Refused c = refused_fields _ c.read_packet.ensures _ c.in-Refused.is
+pub returns-in-Err : goal.returns-in-Err
+returns-in-Err c = refused_fields _ _ c.in-Err.ensures.number

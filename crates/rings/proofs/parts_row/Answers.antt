@@ -1,7 +1,6 @@
 -- `rings::parts_row` meets its contract: both lines along the columns, what lies outside along them, and that joined.
 use mathlib.Core.Path.{◌≡◌, sym, ◌∙◌, ap, subst}
 use Prim.Native.Nat.{◌+◌, ◌*◌, ◌≤◌}
-use native.Mathlib.Nat.{mul-le-mul}
 use native.Mathlib.Omega.{arith}
 use lib.ListN.{length}
 use mir.Syntax.{w32}
@@ -14,34 +13,32 @@ use Rattle.lines.specs.Lines.{padded}
 use Rattle.projection.specs.Fast.{apart_row, together_row}
 use Rattle.projection.proofs.Parts.{four}
 use Rattle.rings.specs.Rows.{slot, ring_line}
-use Rattle.rings.proofs.Rows.{slot_room, ring_runs, line_laid, line_run, outer_runs, both_laid}
+use Rattle.rings.proofs.Rows.{slot_room, line_laid, line_run, outer_runs, both_laid}
 use Rattle.rings.proofs.parts_row.Goals as goal
 use Rattle.rings.proofs.parts_row.Goals.{After-split_line, Start}
 
 -- ---- what is known there
--- the lines have room
-rooms : (s : goal.Start)
-    → let w = s.args.given.width in
-    let d = s.args.level.spacing in
-    (d + w + d ≤ length s.args.low.now) × (d + w + d ≤ length s.args.high.now) × (2 * d + w + 2 * d ≤ length s.args.parts.now) × (2 * d + w + 2 * d ≤ length s.args.minus.now) × (2 * d + w + 2 * d ≤ length s.args.plus.now)
-rooms s =
-    let p = s.requires.width_in_bounds in
-    let d = s.requires.sizes.2.spacing in
-    (omega (arith, p.0, d), omega (arith, p.1, d), omega (arith, p.2, d), omega (arith, p.3, d), omega (arith, p.4, d))
+module _ (s : goal.Start) where
+  -- the lines have room
+  rooms : let w = s.args.given.width in
+      let d = s.args.level.spacing in
+      let a = s.args in
+      (d + w + d ≤ length a.low.now) × (d + w + d ≤ length a.high.now) × (2 * d + w + 2 * d ≤ length a.parts.now) × (2 * d + w + 2 * d ≤ length a.minus.now) × (2 * d + w + 2 * d ≤ length a.plus.now)
+  rooms = let d = s.requires.sizes.2.spacing in (omega arith, omega arith, omega arith, omega arith, omega arith)
 
--- without the places after them
-narrow : (s : goal.Start)
-    → let w = s.args.given.width in
-    let d = s.args.level.spacing in
-    (d + w ≤ length s.args.low.now) × (d + w ≤ length s.args.high.now) × (2 * d + w ≤ length s.args.parts.now) × (2 * d + w ≤ length s.args.minus.now) × (2 * d + w ≤ length s.args.plus.now)
-narrow s = let p = rooms s in (omega (arith, p.0), omega (arith, p.1), omega (arith, p.2), omega (arith, p.3), omega (arith, p.4))
+  -- without the places after them
+  narrow : let w = s.args.given.width in
+      let d = s.args.level.spacing in
+      let a = s.args in
+      (d + w ≤ length a.low.now) × (d + w ≤ length a.high.now) × (2 * d + w ≤ length a.parts.now) × (2 * d + w ≤ length a.minus.now) × (2 * d + w ≤ length a.plus.now)
+  narrow = let p = rooms in (omega (arith, p.0), omega (arith, p.1), omega (arith, p.2), omega (arith, p.3), omega (arith, p.4))
 
--- the limit, as the machine reads it
-limit_of : (s : goal.Start) → to_z w32 (of_z w32 s.args.level.limit) ≡ s.args.level.limit
-limit_of s = back (fits_abs w32 s.args.level.limit (omega (arith, s.requires.sizes.2.limit.small)))
+  -- the limit, as the machine reads it
+  limit_of : to_z w32 (of_z w32 s.args.level.limit) ≡ s.args.level.limit
+  limit_of = back (fits_abs w32 s.args.level.limit (omega (arith, s.requires.sizes.2.limit.small)))
 
-limit_distance : (s : goal.Start) → Distance (to_z w32 (of_z w32 s.args.level.limit))
-limit_distance s = subst Distance (sym (limit_of s)) s.requires.sizes.2.limit
+  limit_distance : Distance (to_z w32 (of_z w32 s.args.level.limit))
+  limit_distance = subst Distance (sym limit_of) s.requires.sizes.2.limit
 
 -- both lines along the columns
 both_lines : (c : goal.After-split_line)
@@ -56,71 +53,40 @@ both_lines c =
       line_laid a.given a.level a.r a.source.now above below high_split a.high.now c.split_line.ensures.high_after,
     )
 
-pub overflow_mul-here : goal.overflow_mul-here
-overflow_mul-here c = omega (arith, slot_room c.args.level.source c.args.given.width c.args.r c.requires.sizes.2.source_from, mul-le-mul c.requires.sizes.2.source_to c.requires.sizes.0.width_to)
-
-pub split_line-requires : goal.split_line-requires
-split_line-requires c =
-    let a = c.args in
-    let runs = ring_runs a.given a.level a.r a.source.now c.slot_before-above.ensures.0 c.slot_after-below.ensures.0 c.requires.sizes.3 in
-    record { run = runs; n_in_bounds = ((narrow (goal.at.split_line-requires c).Start).0, (narrow (goal.at.split_line-requires c).Start).1) }
-
 pub outer_along-requires : goal.outer_along-requires
 outer_along-requires c =
     let a = c.args in
-    let g = a.given in
     let p = c.requires.sizes in
-    let low = line_run a.level.limit p.2.limit.sign g a.level a.r p.0.width_from a.source.now p.3 low_split four.0 a.low.now (narrow (goal.at.outer_along-requires c).Start).0 (both_lines (goal.at.outer_along-requires c).After-split_line).0 in
-    let high = line_run a.level.limit p.2.limit.sign g a.level a.r p.0.width_from a.source.now p.3 high_split four.1 a.high.now (narrow (goal.at.outer_along-requires c).Start).1 (both_lines (goal.at.outer_along-requires c).After-split_line).1 in
-    let room = rooms (goal.at.outer_along-requires c).Start in
-    record { le_n = (p.0.width_from, p.0.width_to, p.2.spacing, omega (arith, c.split_line.auto.low, room.0), omega (arith, c.split_line.auto.high, room.1), low, high); distance = (limit_distance (goal.at.outer_along-requires c).Start, (narrow (goal.at.outer_along-requires c).Start).2, (narrow (goal.at.outer_along-requires c).Start).3, (narrow (goal.at.outer_along-requires c).Start).4) }
-
-pub nonzero_rem-r : goal.nonzero_rem-r
-nonzero_rem-r c = omega (arith, c.requires.sizes.2.slots_from)
-
-pub overflow_mul-r : goal.overflow_mul-r
-overflow_mul-r c = omega (arith, slot_room c.args.level.slots c.args.given.width c.args.r c.requires.sizes.2.slots_from, mul-le-mul c.requires.sizes.2.slots_to c.requires.sizes.0.width_to)
+    let s = (goal.at.outer_along-requires c).Start in
+    let room = rooms s in
+    let n = narrow s in
+    let lines = both_lines (goal.at.outer_along-requires c).After-split_line in
+    let low = line_run a.level.limit p.2.limit.sign a.given a.level a.r p.0.width_from a.source.now p.3 low_split four.0 a.low.now n.0 lines.0 in
+    let high = line_run a.level.limit p.2.limit.sign a.given a.level a.r p.0.width_from a.source.now p.3 high_split four.1 a.high.now n.1 lines.1 in
+    record { le_n = (p.0.width_from, p.0.width_to, p.2.spacing, omega (arith, c.split_line.auto.low, room.0), omega (arith, c.split_line.auto.high, room.1), low, high); distance = (limit_distance s, n.2, n.3, n.4) }
 
 pub join_along-requires : goal.join_along-requires
 join_along-requires c =
     let a = c.args in
-    let g = a.given in
     let p = c.requires.sizes in
-    let n = narrow (goal.at.join_along-requires c).Start in
-    let runs = outer_runs (to_z w32 (of_z w32 a.level.limit)) (limit_distance (goal.at.join_along-requires c).Start).sign g a.level a.r p.0.width_from a.source.now p.3 a.low.now a.high.now n.0 n.1 (both_lines (goal.at.join_along-requires c).After-split_line).0 (both_lines (goal.at.join_along-requires c).After-split_line).1 a.parts.now a.minus.now a.plus.now n.2 n.3 n.4 c.outer_along.ensures.parts_after c.outer_along.ensures.minus_after c.outer_along.ensures.plus_after in
-    let room = rooms (goal.at.join_along-requires c).Start in
-    let place = slot_room a.level.slots g.width a.r p.2.slots_from in
+    let s = (goal.at.join_along-requires c).Start in
+    let room = rooms s in
+    let n = narrow s in
+    let lines = both_lines (goal.at.join_along-requires c).After-split_line in
+    let runs = outer_runs (to_z w32 (of_z w32 a.level.limit)) (limit_distance s).sign a.given a.level a.r p.0.width_from a.source.now p.3 a.low.now a.high.now n.0 n.1 lines.0 lines.1 a.parts.now a.minus.now a.plus.now n.2 n.3 n.4 c.outer_along.ensures.parts_after c.outer_along.ensures.minus_after c.outer_along.ensures.plus_after in
+    let place = slot_room a.level.slots a.given.width a.r p.2.slots_from in
     record { le_n = (p.0.width_from, p.0.width_to, p.2.spacing, omega (arith, c.outer_along.auto.parts, room.2), omega (arith, c.outer_along.auto.minus, room.3), omega (arith, c.outer_along.auto.plus, room.4)); run = (runs.0, runs.1, runs.2, omega (arith, place, c.requires.width_in_bounds_2.0), omega (arith, place, c.requires.width_in_bounds_2.1)) }
-
-pub shape_of-low : goal.shape_of-low
-shape_of-low c = c.outer_along.auto.low ∙ c.split_line.auto.low
-
-pub shape_of-high : goal.shape_of-high
-shape_of-high c = c.outer_along.auto.high ∙ c.split_line.auto.high
-
-pub shape_of-parts : goal.shape_of-parts
-shape_of-parts c = c.join_along.auto.parts ∙ c.outer_along.auto.parts
-
-pub shape_of-minus : goal.shape_of-minus
-shape_of-minus c = c.join_along.auto.minus ∙ c.outer_along.auto.minus
-
-pub shape_of-plus : goal.shape_of-plus
-shape_of-plus c = c.join_along.auto.plus ∙ c.outer_along.auto.plus
-
-pub shape_of-apart : goal.shape_of-apart
-shape_of-apart c = c.join_along.auto.apart
-
-pub shape_of-together : goal.shape_of-together
-shape_of-together c = c.join_along.auto.together
 
 pub returns : goal.returns
 returns c =
     let a = c.args in
     let g = a.given in
     let p = c.requires.sizes in
-    let n = narrow (goal.at.returns c).Start in
+    let s = (goal.at.returns c).Start in
+    let n = narrow s in
+    let lines = both_lines (goal.at.returns c).After-split_line in
     let at = slot a.level.slots g.width a.r in
-    let laid = both_laid (to_z w32 (of_z w32 a.level.limit)) (limit_distance (goal.at.returns c).Start).sign g a.level a.r p.0.width_from a.source.now p.3 a.low.now a.high.now n.0 n.1 (both_lines (goal.at.returns c).After-split_line).0 (both_lines (goal.at.returns c).After-split_line).1 a.parts.now a.minus.now a.plus.now n.2 n.3 n.4 c.outer_along.ensures.parts_after c.outer_along.ensures.minus_after c.outer_along.ensures.plus_after a.apart.now a.together.now at c.join_along.ensures.apart_after c.join_along.ensures.together_after in
+    let laid = both_laid (to_z w32 (of_z w32 a.level.limit)) (limit_distance s).sign g a.level a.r p.0.width_from a.source.now p.3 a.low.now a.high.now n.0 n.1 lines.0 lines.1 a.parts.now a.minus.now a.plus.now n.2 n.3 n.4 c.outer_along.ensures.parts_after c.outer_along.ensures.minus_after c.outer_along.ensures.plus_after a.apart.now a.together.now at c.join_along.ensures.apart_after c.join_along.ensures.together_after in
     let low = ring_line low_split g a.level a.source.now a.r in
     let high = ring_line high_split g a.level a.source.now a.r in
-    record { low_after = c.outer_along.ensures.low_after.0 ∙ ap (padded g.width a.level.spacing) (both_lines (goal.at.returns c).After-split_line).0; apart_after = laid.0 ∙ (λ m. overwrite a.apart.now at g.width (apart_row (limit_of (goal.at.returns c).Start m) a.level.spacing g.width low high)); together_after = laid.1 ∙ (λ m. overwrite a.together.now at g.width (together_row (limit_of (goal.at.returns c).Start m) a.level.spacing g.width low high)) }
+    record { low_after = c.outer_along.ensures.low_after.0 ∙ ap (padded g.width a.level.spacing) lines.0; apart_after = laid.0 ∙ (λ m. overwrite a.apart.now at g.width (apart_row (limit_of s m) a.level.spacing g.width low high)); together_after = laid.1 ∙ (λ m. overwrite a.together.now at g.width (together_row (limit_of s m) a.level.spacing g.width low high)) }

@@ -1,43 +1,13 @@
 -- `rings::parts_stage` meets its contract: its row, or none.
-use mathlib.Core.Path.{refl, sym, ◌∙◌, ap, subst}
+use mathlib.Core.Path.{refl, ◌∙◌, ap}
 use Prim.Native.Nat.{ℕ, ◌<◌}
 use native.Mathlib.Omega.{arith}
 use Rattle.integers.specs.Lists.{overwrite}
 use Rattle.filters.specs.Bank.{low_split}
 use Rattle.lines.specs.Lines.{padded}
-use Rattle.rings.specs.Rows.{ring_line, RingRows, ring_apart, ring_together}
-use Rattle.rings.proofs.Stages.{working, at_row, ring_worked, ring_idle}
+use Rattle.rings.specs.Rows.{ring_line, ring_apart, ring_together}
+use Rattle.rings.proofs.Stages.{ring_worked, ring_idle}
 use Rattle.rings.proofs.parts_stage.Goals as goal
-
-pub parts_row-requires : goal.parts_row-requires
-parts_row-requires c =
-    let a = c.args in
-    let g = a.given in
-    let f = c.done-r.ensures in
-    let i = working a.level.lag g a.t f c.done.ensures c.if-r-done.true in
-    let inside = subst (λ (r : ℕ). r < g.height) (sym f) (at_row a.level.lag g.height a.t i).1 in
-    record { sizes = (c.requires.sizes.0, inside, c.requires.sizes.2, subst (RingRows g a.level a.source.now) (sym f) (c.requires.ring_rows i)); width_in_bounds = c.requires.width_in_bounds; width_in_bounds_2 = c.requires.width_in_bounds_2 }
-
-pub shape_of-low : goal.shape_of-low
-shape_of-low c = c.parts_row.auto.low
-
-pub shape_of-high : goal.shape_of-high
-shape_of-high c = c.parts_row.auto.high
-
-pub shape_of-parts : goal.shape_of-parts
-shape_of-parts c = c.parts_row.auto.parts
-
-pub shape_of-minus : goal.shape_of-minus
-shape_of-minus c = c.parts_row.auto.minus
-
-pub shape_of-plus : goal.shape_of-plus
-shape_of-plus c = c.parts_row.auto.plus
-
-pub shape_of-apart : goal.shape_of-apart
-shape_of-apart c = c.parts_row.auto.apart
-
-pub shape_of-together : goal.shape_of-together
-shape_of-together c = c.parts_row.auto.together
 
 pub returns-then-r-done : goal.returns-then-r-done
 returns-then-r-done c =

@@ -1,16 +1,19 @@
 -- `second_level::merged_stage` meets its contract: its row, or none. The second level is crossed, whole parts and rests, and merged along the row.
 use mathlib.Core.Path.{refl, sym, ◌∙◌, subst}
 use Prim.Native.Nat.{ℕ, ◌+◌, ◌<◌}
+use native.Mathlib.Nat.{le_trans}
 use native.Mathlib.Omega.{arith}
 use lib.IntN.{◌+ℤ◌, ◌-ℤ◌}
+use Rattle.filters.specs.Bank.{Small}
 use Rattle.integers.proofs.Lists.{overwrite_cong}
 use Rattle.planes.specs.Lists.{value}
 use Rattle.lines.specs.declared.Five.{Five}
 use Rattle.lines.specs.Lines.{Run}
 use Rattle.details.specs.Details.{Crossing}
 use Rattle.nested_floor.specs.NestedFloor.{whole, rest}
+use Rattle.nested_floor.proofs.NestedFloor.{whole_small, rest_small}
 use Rattle.rings.specs.Rows.{slot, five_slots}
-use Rattle.rings.proofs.Rows.{slot_inside, slot_fits}
+use Rattle.rings.proofs.Rows.{slot_inside}
 use Rattle.rings.proofs.Stages.{working, ring_worked, ring_idle}
 use Rattle.second_level.specs.SecondLevel.{apart_row, together_row, rest_row}
 use Rattle.second_level.proofs.SecondLevel.{whole_run, rest_run, low_joined}
@@ -36,57 +39,52 @@ module _ (q : goal.After-five_slots-starts) where
   crossing : let a = q.args in Crossing 805306368 a.apart2.now a.together2.now q.five_slots-starts.result a.given.width
   crossing = let a = q.args in subst (λ (v : Five). Crossing 805306368 a.apart2.now a.together2.now v a.given.width) (sym q.five_slots-starts.ensures) ready.0
 
-pub cross_whole-requires : goal.cross_whole-requires
-cross_whole-requires c = (crossing (goal.at.cross_whole-requires c).After-five_slots-starts, omega (arith, c.requires.width_in_bounds.0))
+pub cross-requires : goal.cross-requires
+cross-requires c =
+    record { crossing = (crossing (goal.at.cross-requires c).After-five_slots-starts, omega (arith, c.requires.width_in_bounds.0)); takes = (λ z h. tt); small = (λ z r h e. subst Small (sym e) (le_trans (whole_small 786432 z h) (omega arith))) }
 
-pub cross_rest-requires : goal.cross_rest-requires
-cross_rest-requires c = (crossing (goal.at.cross_rest-requires c).After-five_slots-starts, omega (arith, c.requires.width_in_bounds.1))
-
-pub overflow_mul-from : goal.overflow_mul-from
-overflow_mul-from c = slot_fits _ _ (omega arith) c.requires.sizes.0.width_to
-
-pub overflow_mul-at : goal.overflow_mul-at
-overflow_mul-at c = slot_fits _ _ (omega arith) c.requires.sizes.0.width_to
+pub cross-requires-then-r-done : goal.cross-requires-then-r-done
+cross-requires-then-r-done c =
+    record { crossing = (crossing (goal.at.cross-requires-then-r-done c).After-five_slots-starts, omega (arith, c.requires.width_in_bounds.1)); takes = (λ z h. h); small = (λ z r h e. subst Small (sym e) (le_trans (rest_small z) (omega arith))) }
 
 pub merge_along-requires : goal.merge_along-requires
 merge_along-requires c =
     let a = c.args in
-    let g = a.given in
+    let w = a.given.width in
     let lines = c.requires.width_in_bounds in
     let rings = c.requires.width_in_bounds_2 in
+    let q = (goal.at.merge_along-requires c).After-five_slots-starts in
+    let whole_is = c.cross.ensures whole (λ z r h e. e) in
+    let rest_is = c.cross-then-r-done.ensures rest (λ z r h e. e) in
     record {
       le_n = (
         c.requires.sizes.0.width_from,
         c.requires.sizes.0.width_to,
-        omega (arith, c.cross_whole.auto.out, lines.0),
-        omega (arith, c.cross_rest.auto.out, lines.1),
-        whole_run g.width a.whole.now (omega (arith, lines.0)) (crossing (goal.at.merge_along-requires c).After-five_slots-starts) c.cross_whole.ensures,
-        rest_run g.width a.rest.now (omega (arith, lines.1)) a.apart2.now a.together2.now c.five_slots-starts.result c.cross_rest.ensures,
+        omega (arith, c.cross.auto.out, lines.0),
+        omega (arith, c.cross-then-r-done.auto.out, lines.1),
+        whole_run w a.whole.now (omega (arith, lines.0)) (crossing q) whole_is,
+        rest_run w a.rest.now (omega (arith, lines.1)) a.apart2.now a.together2.now c.five_slots-starts.result rest_is,
       );
-      run = ((ready (goal.at.merge_along-requires c).After-five_slots-starts).1, (ready (goal.at.merge_along-requires c).After-five_slots-starts).2, slot_inside _ 5 _ _ (omega arith) rings.0, slot_inside _ 5 _ _ (omega arith) rings.1, slot_inside _ 5 _ _ (omega arith) rings.2);
+      run = ((ready q).1, (ready q).2, slot_inside _ 5 _ _ (omega arith) rings.0, slot_inside _ 5 _ _ (omega arith) rings.1, slot_inside _ 5 _ _ (omega arith) rings.2);
     }
-
-pub shape_of-whole : goal.shape_of-whole
-shape_of-whole c = c.merge_along.auto.whole ∙ c.cross_whole.auto.out
-
-pub shape_of-rest : goal.shape_of-rest
-shape_of-rest c = c.merge_along.auto.rest ∙ c.cross_rest.auto.out
 
 pub returns-then-r-done : goal.returns-then-r-done
 returns-then-r-done c =
     let a = c.args in
     let g = a.given in
     let n = g.width in
-    let at = slot 5 n (row (goal.at.returns-then-r-done c).After-five_slots-starts) in
+    let at = slot 5 n c.done-r.result in
+    let from = slot 7 n c.done-r.result in
     let a2 = a.apart2.now in
     let b2 = a.together2.now in
     let f = c.done-r.ensures in
     let l = c.done.ensures in
     let i = c.if-r-done.true in
     let z = c.five_slots-starts.ensures in
-    let wholes = low_joined n a.whole.now (omega (arith, c.requires.width_in_bounds.0)) c.requires.sizes.0.width_from whole a2 b2 z c.cross_whole.ensures in
-    let rests = low_joined n a.rest.now (omega (arith, c.requires.width_in_bounds.1)) c.requires.sizes.0.width_from rest a2 b2 z c.cross_rest.ensures in
-    record { apart_after = ring_worked 7 g a.t f l 5 i a.apart.now (apart_row g a.apart1.now a2 b2) (c.merge_along.ensures.apart_after ∙ overwrite_cong a.apart.now at n _ _ (λ k j. λ y. value a.apart1.now (slot 7 n (row (goal.at.returns-then-r-done c).After-five_slots-starts) + k) -ℤ wholes k y)); together_after = ring_worked 7 g a.t f l 5 i a.together.now (together_row g a.together1.now a2 b2) (c.merge_along.ensures.together_after ∙ overwrite_cong a.together.now at n _ _ (λ k j. λ y. value a.together1.now (slot 7 n (row (goal.at.returns-then-r-done c).After-five_slots-starts) + k) +ℤ wholes k y)); rests_after = ring_worked 7 g a.t f l 5 i a.rests.now (rest_row g a2 b2) (c.merge_along.ensures.out_after ∙ overwrite_cong a.rests.now at n _ _ (λ k j. rests k)); as_long = (shape_of-whole c, shape_of-rest c) }
+    let m = c.merge_along.ensures in
+    let wholes = low_joined n a.whole.now (omega (arith, c.requires.width_in_bounds.0)) c.requires.sizes.0.width_from whole a2 b2 z (c.cross.ensures whole (λ z r h e. e)) in
+    let rests = low_joined n a.rest.now (omega (arith, c.requires.width_in_bounds.1)) c.requires.sizes.0.width_from rest a2 b2 z (c.cross-then-r-done.ensures rest (λ z r h e. e)) in
+    record { apart_after = ring_worked 7 g a.t f l 5 i a.apart.now (apart_row g a.apart1.now a2 b2) (m.apart_after ∙ overwrite_cong a.apart.now at n _ _ (λ k j. λ y. value a.apart1.now (from + k) -ℤ wholes k y)); together_after = ring_worked 7 g a.t f l 5 i a.together.now (together_row g a.together1.now a2 b2) (m.together_after ∙ overwrite_cong a.together.now at n _ _ (λ k j. λ y. value a.together1.now (from + k) +ℤ wholes k y)); rests_after = ring_worked 7 g a.t f l 5 i a.rests.now (rest_row g a2 b2) (m.out_after ∙ overwrite_cong a.rests.now at n _ _ (λ k j. rests k)); as_long = (c.merge_along.auto.whole ∙ c.cross.auto.out, c.merge_along.auto.rest ∙ c.cross-then-r-done.auto.out) }
 
 pub returns-else-r-done : goal.returns-else-r-done
 returns-else-r-done c =

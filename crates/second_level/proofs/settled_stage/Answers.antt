@@ -11,10 +11,9 @@ use Rattle.rings.specs.Rows.{row_at, five_slots}
 use Rattle.rings.specs.Stages.{reached}
 use Rattle.rings.proofs.Stages.{working, row_worked, row_idle}
 use Rattle.second_level.specs.SecondLevel.{settled_row}
-use Rattle.second_level.proofs.SecondLevel.{runs_wider, rests_run, settled_laid}
-use borrow.Author.Rules.{rules}
+use Rattle.second_level.proofs.SecondLevel.{rests_run, settled_laid}
 use Rattle.second_level.proofs.settled_stage.Goals as goal
-use Rattle.second_level.proofs.settled_stage.Goals.{After-five_slots-starts}
+use Rattle.second_level.proofs.settled_stage.Goals.{After-five_slots-starts, Start}
 
 -- ---- what is known there
 module _ (q : goal.After-five_slots-starts) where
@@ -36,22 +35,11 @@ module _ (q : goal.After-five_slots-starts) where
       let v = q.five_slots-starts.result in Crossing 163577856 a.apart.now a.together.now v a.given.width × Runs 174762 a.rests.now v a.given.width
   found = let a = q.args in subst (λ (v : Five). Crossing 163577856 a.apart.now a.together.now v a.given.width × Runs 174762 a.rests.now v a.given.width) (sym q.five_slots-starts.ensures) (ready.1, ready.2)
 
-pub join_low-requires : goal.join_low-requires
-join_low-requires c = record { runs = runs_wider (omega arith) (found (goal.at.join_low-requires c).After-five_slots-starts).1; n_in_bounds = omega (arith, c.requires.sizes.2) }
-
-pub overflow_mul-row : goal.overflow_mul-row
-overflow_mul-row c = omega (arith, (ready (goal.at.overflow_mul-row c).After-five_slots-starts).0.inside)
-
-pub overflow_add-row : goal.overflow_add-row
-overflow_add-row c = omega (arith, (ready (goal.at.overflow_add-row c).After-five_slots-starts).0.inside)
-
 pub settle_line-requires : goal.settle_line-requires
 settle_line-requires c =
     let a = c.args in
-    ((ready (goal.at.settle_line-requires c).After-five_slots-starts).0, (found (goal.at.settle_line-requires c).After-five_slots-starts).0, rests_run a.given a.rests.now (found (goal.at.settle_line-requires c).After-five_slots-starts).1 a.line.now (omega (arith, c.requires.sizes.2)) c.join_low.ensures)
-
-pub shape_of-line : goal.shape_of-line
-shape_of-line c = search rules
+    let q = (goal.at.settle_line-requires c).After-five_slots-starts in
+    ((ready q).0, (found q).0, rests_run a.given a.rests.now (found q).1 a.line.now (omega (arith, c.requires.sizes.2)) c.join_low.ensures)
 
 pub returns-then-r-done : goal.returns-then-r-done
 returns-then-r-done c =
@@ -60,7 +48,7 @@ returns-then-r-done c =
     record {
       own_after = row_worked 9 g a.t c.done-r.ensures c.done.ensures c.if-r-done.true a.own.now (row_at g) (settled_row g a.least a.most a.own.now a.apart.now a.together.now a.rests.now)
           (settled_laid g a.rests.now (found (goal.at.returns-then-r-done c).After-five_slots-starts).1 a.line.now (omega (arith, c.requires.sizes.2)) c.join_low.ensures (back c.ranges.least) (back c.ranges.most) (row (goal.at.returns-then-r-done c).After-five_slots-starts) c.five_slots-starts.ensures a.own.now a.apart.now a.together.now c.settle_line.ensures);
-      as_long = shape_of-line c;
+      as_long = c.join_low.auto.out;
     }
 
 pub returns-else-r-done : goal.returns-else-r-done

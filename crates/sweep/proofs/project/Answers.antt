@@ -1,16 +1,12 @@
--- `sweep::project` meets its contract: the rings and lines are its own.
+-- `sweep::project` meets its contract: what the sweep keeps is its own.
 use mathlib.Core.Path.{◌∙◌}
-use native.Mathlib.Omega.{arith}
 use mir.Facts.{to_z-of_z as back}
 use Rattle.filters.proofs.Quotients.{ends_read}
 use Rattle.sweep.specs.Sweep.{with_projected}
 use Rattle.sweep.proofs.project.Goals as goal
 
 pub project_rows-requires : goal.project_rows-requires
-project_rows-requires c =
-    let p = c.requires in
-    let w = p.0.sizes.width_to in
-    record { projectable = (p.0, omega (arith, w), ends_read p.1); width_in_bounds = (omega (arith, w), omega (arith, w), omega (arith, w), omega (arith, w), omega (arith, w)); width_in_bounds_2 = (omega (arith, w), omega (arith, w)) }
+project_rows-requires c = (c.requires.0, ends_read c.requires.1)
 
 pub returns : goal.returns
 returns c =

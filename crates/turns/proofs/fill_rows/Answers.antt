@@ -1,8 +1,7 @@
 -- `turns::fill_rows` meets its contract: after i turns, i rows are laid down.
-use mathlib.Core.Path.{◌≡◌, refl, ap, ◌∙◌}
+use mathlib.Core.Path.{◌≡◌, ap, ◌∙◌}
 use Prim.Native.Nat.{ℕ, ◌+◌, ◌*◌, ◌/◌, ◌%◌, ◌≤◌}
 use native.Mathlib.Omega.{arith}
-use lib.Dec.{eqb}
 use lib.ListN.{length}
 use Rattle.integers.specs.Lists.{overwrite}
 use Rattle.planes.proofs.Planes.{row_room, overwrite_no_row, overwrite-row, overwrite-plane}
@@ -12,7 +11,7 @@ use Rattle.turns.proofs.fill_rows.Goals as goal
 use Rattle.turns.proofs.fill_rows.Goals.{After-mirrored}
 
 pub loop-i-init : goal.loop-i-init
-loop-i-init c = let a = c.args in (omega arith, overwrite_no_row a.out.now 0 a.columns _, refl)
+loop-i-init c = overwrite_no_row c.args.out.now 0 c.args.columns _
 
 pub overflow_mul-from : goal.overflow_mul-from
 overflow_mul-from c = record { fits = omega (arith, c.requires.in_plane.inside c.mirrored.result 0 c.mirrored.ensures.1 c.requires.in_plane.some) }
@@ -38,19 +37,13 @@ pub loop-i-preserved : goal.loop-i-preserved
 loop-i-preserved c =
     let a = c.args in
     let m = c.mirrored in
-    let lr = eqb a.left_right 1 in
-    let tb = eqb a.top_bottom 1 in
-    let p = source_plane a.samples.now lr tb a.columns a.rows a.row_step a.column_step in (
-      omega arith,
-      overwrite-row a.out.now 0 a.columns c.loop-i.i p (source_row a.samples.now lr a.columns (m.result * a.row_step) a.column_step) (c.loop-i.i * a.columns) c.fill_row.ensures (omega arith) (omega (arith, room (goal.at.loop-i-preserved c).After-mirrored)) c.loop-i.invariant.1
-          (λ j b. plane-sample a.samples.now lr tb a.columns a.rows a.row_step a.column_step c.loop-i.i m.result j m.ensures.0),
-      omega arith,
-    )
+    let p = source_plane a.samples.now a.left_right a.top_bottom a.columns a.rows a.row_step a.column_step in
+    overwrite-row a.out.now 0 a.columns c.loop-i.i p (source_row a.samples.now a.left_right a.columns (m.result * a.row_step) a.column_step) (c.loop-i.i * a.columns) c.fill_row.ensures (omega arith) (omega (arith, room (goal.at.loop-i-preserved c).After-mirrored)) c.loop-i.invariant
+    (λ j b. plane-sample a.samples.now a.left_right a.top_bottom a.columns a.rows a.row_step a.column_step c.loop-i.i m.result j m.ensures.0)
 
 pub returns : goal.returns
 returns c =
     let a = c.args in
-    let p = source_plane a.samples.now (eqb a.left_right 1) (eqb a.top_bottom 1) a.columns a.rows a.row_step a.column_step in
+    let p = source_plane a.samples.now a.left_right a.top_bottom a.columns a.rows a.row_step a.column_step in
     let all : c.loop-i.i ≡ a.rows = omega arith in
-    c.loop-i.invariant.1 ∙ ap (λ (n : ℕ). overwrite a.out.now 0 (n * a.columns) (λ k. p (k / a.columns) (k % a.columns))) all
-    ∙ overwrite-plane a.out.now a.columns a.rows p c.requires.out_len
+    c.loop-i.invariant ∙ ap (λ (n : ℕ). overwrite a.out.now 0 (n * a.columns) (λ k. p (k / a.columns) (k % a.columns))) all ∙ overwrite-plane a.out.now a.columns a.rows p c.requires.out_len

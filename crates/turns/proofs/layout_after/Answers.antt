@@ -5,9 +5,9 @@ use Rattle.turns.proofs.layout_after.Goals as goal
 pub returns-then-turn-ge4 : goal.returns-then-turn-ge4
 returns-then-turn-ge4 c =
     let a = c.args in
-    layout_high a.turn a.width a.height a.layout _ _ c.if-turn-ge4.true c.mirrored_parity-turned_row.ensures.0 c.mirrored_parity.ensures.0
+    layout_high a.turn a.shape.width a.shape.height a.shape.layout _ _ c.if-turn-ge4.true c.mirrored_parity-turned_row.ensures.0 c.mirrored_parity.ensures.0
 
 pub returns-else-turn-ge4 : goal.returns-else-turn-ge4
 returns-else-turn-ge4 c =
     let a = c.args in
-    layout_low a.turn a.width a.height a.layout _ _ c.if-turn-ge4.false c.mirrored_parity-turned_row-else-turn-ge4.ensures.0 c.mirrored_parity-else-turn-ge4.ensures.0
+    layout_low a.turn a.shape.width a.shape.height a.shape.layout _ _ c.if-turn-ge4.false c.mirrored_parity-turned_row-else-turn-ge4.ensures.0 c.mirrored_parity-else-turn-ge4.ensures.0

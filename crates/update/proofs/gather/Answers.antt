@@ -17,7 +17,7 @@ abbrev Plane : goal.Start → ℕ → ℕ → ℤ
 Plane s = let a = s.args in λ i j. sample a.green.now (a.from + i * a.down + 2 * j)
 
 pub loop-i-init : goal.loop-i-init
-loop-i-init c = let a = c.args in (omega arith, overwrite_no_row a.work.now 0 a.columns _, refl)
+loop-i-init c = let a = c.args in overwrite_no_row a.work.now 0 a.columns _
 
 -- row i has its place in the work buffer, and its samples are in the list
 room : (c : goal.In-loop-i)
@@ -34,9 +34,6 @@ overflow_mul-i c = let r = reach c 0 c.requires.0.some in record { fits = omega 
 pub overflow_add-from : goal.overflow_add-from
 overflow_add-from c = let r = reach c 0 c.requires.0.some in record { fits = omega arith }
 
-pub overflow_mul-i-in-loop-i : goal.overflow_mul-i-in-loop-i
-overflow_mul-i-in-loop-i c = let r = room (goal.at.overflow_mul-i-in-loop-i c).In-loop-i in record { fits = omega arith }
-
 pub gather_row-requires : goal.gather_row-requires
 gather_row-requires c =
     let r = room (goal.at.gather_row-requires c).In-loop-i in
@@ -45,18 +42,12 @@ gather_row-requires c =
 pub loop-i-preserved : goal.loop-i-preserved
 loop-i-preserved c =
     let s = (goal.at.loop-i-preserved c).Start in
-    let a = c.args in (
-      omega arith,
-      overwrite-row a.work.now 0 a.columns c.loop-i.i (Plane s) (Plane s c.loop-i.i) (c.loop-i.i * a.columns) c.gather_row.ensures (omega arith) (omega (arith, room (goal.at.loop-i-preserved c).In-loop-i)) c.loop-i.invariant.1 (λ j b. refl),
-      omega arith,
-    )
-
-pub shape_of-work : goal.shape_of-work
-shape_of-work c = c.loop-i.invariant.2
+    let a = c.args in
+    overwrite-row a.work.now 0 a.columns c.loop-i.i (Plane s) (Plane s c.loop-i.i) (c.loop-i.i * a.columns) c.gather_row.ensures (omega arith) (omega (arith, room (goal.at.loop-i-preserved c).In-loop-i)) c.loop-i.invariant (λ j b. refl)
 
 pub returns : goal.returns
 unfolding place
 returns c =
     let a = c.args in
     let all : c.loop-i.i * a.columns ≡ a.columns * a.rows = ap (λ (n : ℕ). n * a.columns) (let e : c.loop-i.i ≡ a.rows = omega arith in e) ∙ mul_comm a.rows a.columns in
-    c.loop-i.invariant.1 ∙ ap (λ (n : ℕ). overwrite a.work.now 0 n (λ k. Plane (goal.at.returns c).Start (k / a.columns) (k % a.columns))) all
+    c.loop-i.invariant ∙ ap (λ (n : ℕ). overwrite a.work.now 0 n (λ k. Plane (goal.at.returns c).Start (k / a.columns) (k % a.columns))) all

@@ -1,13 +1,9 @@
 -- `update::gather` meets its contract: after i turns, i rows are laid down.
 use mathlib.Core.Path.{◌≡◌}
-use Prim.Native.Nat.{◌+◌, ◌*◌, ◌-◌, ◌/◌, ◌%◌, ◌≤◌}
-use lib.ListN.{length}
+use Prim.Native.Nat.{◌+◌, ◌*◌, ◌/◌, ◌%◌}
 use Rattle.integers.specs.Lists.{overwrite}
 use Rattle.planes.specs.Lists.{sample}
 use Rattle.update.proofs.gather.Given as goal
 
 abbrev pub invariant-loop-i : goal.invariant-loop-i
-invariant-loop-i l = (l.i ≤ l.rows) × (l.work ≡ overwrite l.initial.work 0 (l.i * l.columns) (λ k. sample l.green (l.from + k / l.columns * l.down + 2 * (k % l.columns)))) × (length l.work ≡ length l.initial.work)
-
-abbrev pub decreases-loop-i : goal.decreases-loop-i
-decreases-loop-i l = l.rows - l.i
+invariant-loop-i l = l.work ≡ overwrite l.initial.work 0 (l.i * l.columns) (λ k. sample l.green (l.from + k / l.columns * l.down + 2 * (k % l.columns)))

@@ -1,14 +1,10 @@
 -- `update::scatter` meets its contract: after i turns, i rows are put.
 use mathlib.Core.Path.{◌≡◌}
-use Prim.Native.Nat.{◌*◌, ◌-◌, ◌≤◌}
+use Prim.Native.Nat.{◌*◌}
 use lib.IntN.{nat_abs}
-use lib.ListN.{length}
 use Rattle.planes.specs.Lists.{value, put}
 use Rattle.planes.specs.Places.{place}
 use Rattle.update.proofs.scatter.Given as goal
 
 abbrev pub invariant-loop-i : goal.invariant-loop-i
-invariant-loop-i l = (l.i ≤ l.rows) × (l.green ≡ put l.initial.green (l.i * l.columns) (place l.from l.down l.columns) (λ k. nat_abs (value l.work k))) × (length l.green ≡ length l.initial.green)
-
-abbrev pub decreases-loop-i : goal.decreases-loop-i
-decreases-loop-i l = l.rows - l.i
+invariant-loop-i l = l.green ≡ put l.initial.green (l.i * l.columns) (place l.from l.down l.columns) (λ k. nat_abs (value l.work k))

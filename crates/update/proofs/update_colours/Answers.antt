@@ -2,12 +2,21 @@
 use native.Mathlib.Omega.{arith}
 use Rattle.planes.specs.Layout.{red_row, red_column}
 use Rattle.work_buffer.specs.Buffer.{zeroed}
+use Rattle.work_buffer.proofs.Buffer.{filled}
 use Rattle.update.proofs.Calls.{both_colours, work_zeroed}
 use Rattle.update.proofs.update_colours.Goals as goal
 
-pub returns : goal.returns
-unfolding red_row red_column zeroed
-returns c =
+pub returns-clause-green_after : goal.returns-clause-green_after
+unfolding red_row red_column
+returns-clause-green_after c =
+    let a = c.args in
+    let blue = rw (c.from-red_row.ensures, c.from-red_column.ensures) at c.update_places.ensures.green_after in
+    let red = rw (c.from-red_row.ensures, c.from-red_column.ensures) at c.update_places-2.ensures.green_after in
+    both_colours _ a.shape.width a.shape.height a.shape.layout a.mosaic.now a.green.now blue red
+
+pub returns-clause-work_after : goal.returns-clause-work_after
+unfolding zeroed
+returns-clause-work_after c =
     let a = c.args in
     let u = c.requires in
-    record { green_after = both_colours _ a.width a.height a.layout a.mosaic.now a.green.now c.update_places.ensures.green_after c.update_places-2.ensures.green_after; work_after = work_zeroed _ a.width a.height _ _ _ _ a.mosaic.now a.green.now _ a.work.now (omega (arith, u.sizes.width_from)) (omega (arith, u.sizes.height_from)) u.work c.update_places.ensures.work_after c.update_places-2.ensures.work_after c.zero.ensures }
+    work_zeroed _ a.shape.width a.shape.height _ _ _ _ a.mosaic.now a.green.now _ a.work.now (omega (arith, u.sizes.width_from)) (omega (arith, u.sizes.height_from)) u.work c.update_places.ensures.work_after c.update_places-2.ensures.work_after (filled _ _ _ (omega arith) (c.fill.ensures.after (λ y e. e)))

@@ -1,7 +1,7 @@
 -- `window::row_sum` meets its contract. The loop's invariant: the sum is that of the samples passed, each below 65,536.
 use mathlib.Core.Path.{◌≡◌}
 use mathlib.Core.List.{List}
-use Prim.Native.Nat.{ℕ, ◌+◌, ◌-◌, ◌*◌, ◌≤◌}
+use Prim.Native.Nat.{ℕ, ◌+◌, ◌*◌, ◌≤◌}
 use lib.ListN.{get_or}
 use Rattle.window.specs.Window.{total}
 use Rattle.window.proofs.row_sum.Given as goal
@@ -10,8 +10,5 @@ use Rattle.window.proofs.row_sum.Given as goal
 abbrev pub Sample : List ℕ → ℕ → ℕ → ℕ
 Sample plane from j = get_or plane (from + j) 0
 
-abbrev pub invariant-loop-j : goal.invariant-loop-j
-invariant-loop-j l = (l.j ≤ 32) × (l.sum ≡ total l.j (Sample l.plane l.from)) × (l.sum ≤ l.j * 65535)
-
-abbrev pub decreases-loop-j : goal.decreases-loop-j
-decreases-loop-j l = 32 - l.j
+abbrev pub invariant-loop-sample : goal.invariant-loop-sample
+invariant-loop-sample l = (l.sum ≡ total l.sample-index (Sample l.plane l.from)) × (l.sum ≤ l.sample-index * 65535)

@@ -1,12 +1,11 @@
 -- `working_plane::observe` meets its contract: after i turns, i rows are put.
-use mathlib.Core.Path.{◌≡◌, refl, sym, ◌∙◌, ap}
+use mathlib.Core.Path.{sym, ap}
 use Prim.Native.Nat.{ℕ, ◌+◌, ◌*◌, ◌<◌}
-use native.Mathlib.Nat.{mul_comm}
 use native.Mathlib.Omega.{arith}
 use lib.IntN.{ℤ}
 use lib.ListN.{length}
 use Rattle.planes.specs.Places.{place}
-use Rattle.planes.specs.Lists.{sample, put}
+use Rattle.planes.specs.Lists.{sample}
 use Rattle.planes.proofs.Places.{row-place, put_no_row, put-row}
 use Rattle.working_plane.proofs.observe.Goals as goal
 use Rattle.working_plane.proofs.observe.Goals.{In-loop-i, Start}
@@ -19,7 +18,7 @@ abbrev Row : goal.Start → ℕ → ℤ
 Row s = λ k. sample s.args.mosaic.now (At s k)
 
 pub loop-i-init : goal.loop-i-init
-loop-i-init c = (omega arith, put_no_row c.args.work.now c.args.columns (At (goal.at.loop-i-init c).Start) (Row (goal.at.loop-i-init c).Start), refl)
+loop-i-init c = let s = (goal.at.loop-i-init c).Start in put_no_row c.args.work.now c.args.columns (At s) (Row s)
 
 -- row i's samples stand in the mosaic
 reach : (c : goal.In-loop-i) (k : ℕ)
@@ -33,22 +32,10 @@ pub overflow_add-from : goal.overflow_add-from
 overflow_add-from c = let r = reach c 0 c.requires.0.some in record { fits = omega arith }
 
 pub observe_row-requires : goal.observe_row-requires
-observe_row-requires c = (record { inside = reach (goal.at.observe_row-requires c).In-loop-i }, omega (arith, c.requires.1, c.loop-i.invariant.2))
+observe_row-requires c = (record { inside = reach (goal.at.observe_row-requires c).In-loop-i }, omega (arith, c.requires.1))
 
 pub loop-i-preserved : goal.loop-i-preserved
 loop-i-preserved c =
     let a = c.args in
-    let i = c.loop-i.i in (
-      omega arith,
-      put-row a.work.now a.from a.down a.columns i (Row (goal.at.loop-i-preserved c).Start) (λ k. sample a.mosaic.now (a.from + i * a.down + 2 * k)) (λ k b. ap (sample a.mosaic.now) (sym (row-place a.from a.down a.columns i k b))) c.loop-i.invariant.1 c.observe_row.ensures,
-      omega arith,
-    )
-
-pub shape_of-work : goal.shape_of-work
-shape_of-work c = c.loop-i.invariant.2
-
-pub returns : goal.returns
-returns c =
-    let a = c.args in
-    let all : c.loop-i.i * a.columns ≡ a.columns * a.rows = ap (λ (n : ℕ). n * a.columns) (let e : c.loop-i.i ≡ a.rows = omega arith in e) ∙ mul_comm a.rows a.columns in
-    c.loop-i.invariant.1 ∙ ap (λ (n : ℕ). put a.work.now n (At (goal.at.returns c).Start) (Row (goal.at.returns c).Start)) all
+    let i = c.loop-i.i in
+    put-row a.work.now a.from a.down a.columns i (Row (goal.at.loop-i-preserved c).Start) (λ k. sample a.mosaic.now (a.from + i * a.down + 2 * k)) (λ k b. ap (sample a.mosaic.now) (sym (row-place a.from a.down a.columns i k b))) c.loop-i.invariant c.observe_row.ensures

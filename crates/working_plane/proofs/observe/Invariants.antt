@@ -1,13 +1,9 @@
 -- `working_plane::observe` meets its contract: after i turns, i rows are put.
 use mathlib.Core.Path.{◌≡◌}
-use Prim.Native.Nat.{◌*◌, ◌-◌, ◌≤◌}
-use lib.ListN.{length}
+use Prim.Native.Nat.{◌*◌}
 use Rattle.planes.specs.Places.{place}
 use Rattle.planes.specs.Lists.{sample, put}
 use Rattle.working_plane.proofs.observe.Given as goal
 
 abbrev pub invariant-loop-i : goal.invariant-loop-i
-invariant-loop-i l = (l.i ≤ l.rows) × (l.work ≡ put l.initial.work (l.i * l.columns) (place l.from l.down l.columns) (λ k. sample l.mosaic (place l.from l.down l.columns k))) × (length l.work ≡ length l.initial.work)
-
-abbrev pub decreases-loop-i : goal.decreases-loop-i
-decreases-loop-i l = l.rows - l.i
+invariant-loop-i l = l.work ≡ put l.initial.work (l.i * l.columns) (place l.from l.down l.columns) (λ k. sample l.mosaic (place l.from l.down l.columns k))

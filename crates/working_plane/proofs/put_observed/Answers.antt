@@ -1,22 +1,10 @@
 -- `working_plane::put_observed` meets its contract: every second place of every second row, from the colour's first on.
-use Prim.Native.Nat.{◌*◌, ◌≤◌}
-use native.Mathlib.Nat.{mul-le-mul_right}
 use native.Mathlib.Omega.{arith}
 use Rattle.planes.specs.Places.{half}
 use Rattle.planes.proofs.Places.{small_rows}
 use Rattle.work_buffer.proofs.Buffer.{put_samples}
 use Rattle.working_plane.proofs.put_observed.Goals as goal
 use Rattle.working_plane.proofs.put_observed.Goals.{Start}
-
--- the colour's first place is near
-near : (s : goal.Start) → s.args.colour.row * s.args.colour.width ≤ 2 * s.args.colour.width
-near s = mul-le-mul_right s.args.colour.width (let h = s.requires.sizes.1 in omega arith)
-
-pub overflow_mul-first : goal.overflow_mul-first
-overflow_mul-first c = record { fits = omega (arith, near (goal.at.overflow_mul-first c).Start, c.requires.sizes.0.width_to) }
-
-pub overflow_add-first : goal.overflow_add-first
-overflow_add-first c = record { fits = omega (arith, near (goal.at.overflow_add-first c).Start, c.requires.sizes.0.width_to, c.requires.sizes.2) }
 
 pub observe-requires : goal.observe-requires
 unfolding half

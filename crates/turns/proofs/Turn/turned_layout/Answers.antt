@@ -1,24 +1,16 @@
 -- `Turn::turned_layout` meets its contract.
-use mathlib.Core.Path.{refl, ap}
+use Rattle.std.proofs.Common.{rules, ap, Ok}
 use Rattle.questions.proofs.Answering.{answer_no, answer_yes}
-use Rattle.turns.specs.Turning.{shape_turn_questions, number_of_layout}
-use Rattle.turns.specs.declared.TurnedLayout.TheVariants.{Layout}
 use Rattle.turns.proofs.Calls.{shape_known}
 use Rattle.turns.proofs.Turn.turned_layout.Goals as goal
 
-pub returns-then-number-ne0 : goal.returns-then-number-ne0
-returns-then-number-ne0 c =
-    let a = c.args in
-    answer_no number_of_layout (shape_turn_questions a.self.number a.width a.height a.layout) _ _ c.shape_refusal-number.ensures c.if-number-ne0.true
+pub returns-in_err-ask_turned_shape : goal.returns-in_err-ask_turned_shape
+returns-in_err-ask_turned_shape c = answer_no _ (search rules) c.in_err-ask_turned_shape.ensures
 
 pub layout_after-requires : goal.layout_after-requires
 layout_after-requires c =
     let a = c.args in
-    (shape_known a.self.number a.width a.height a.layout _ c.shape_refusal-number.ensures c.if-number-ne0.false).layout_to
+    (shape_known a.self.number a.shape.width a.shape.height a.shape.layout c.in_ok-ask_turned_shape.ensures).layout_to
 
 pub returns : goal.returns
-returns c =
-    let a = c.args in
-    answer_yes number_of_layout (shape_turn_questions a.self.number a.width a.height a.layout) _ _
-    c.shape_refusal-number.result c.shape_refusal-number.ensures c.if-number-ne0.false refl
-    (ap (λ n. Layout n) c.layout_after.ensures)
+returns c = answer_yes c.in_ok-ask_turned_shape.ensures (ap (λ n. Ok n) c.layout_after.ensures)

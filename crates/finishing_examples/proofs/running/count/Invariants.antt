@@ -1,6 +1,0 @@
--- proofs/running/count/Invariants.antt
-use Rattle.std.proofs.Common.{◌≤◌}
-use Rattle.finishing_examples.proofs.running.count.Given as goal
-
-abbrev pub invariant-loop-k : goal.invariant-loop-k
-invariant-loop-k l = l.found ≤ l.k
