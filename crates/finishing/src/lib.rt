@@ -8,7 +8,7 @@ ghost use Rattle.questions.specs.Lent.{lent, rooms_of};
 ghost use Rattle.questions.specs.Calls.{Outcome};
 ghost use Rattle.finishing.specs.Calls.{finish_questions, with_finished, finish_call, finish_given, FinishResult};
 
-use questions::{Refusal, Rooms, Settings, Shape};
+use questions::{Refusal, Lengths, Settings, Shape};
 use tally::Tally;
 
 // Estimate, update, rounds, by their calls, which then accept.
@@ -46,7 +46,7 @@ pub fn finish_frame(
 ) -> Result<(), Refusal>
     ensures { Outcome (finish_call (framed shape mosaic.now) settings (lent red.old green.old blue.old work.old wide_work.old)) result (lent red.new green.new blue.new work.new wide_work.new) }
 {
-    let room = Rooms {
+    let room = Lengths {
         red: red.len(),
         green: green.len(),
         blue: blue.len(),

@@ -4,7 +4,7 @@ use Rattle.questions.specs.Questions.{Question, ask}
 use Rattle.questions.specs.Refusals.{number_of}
 use Rattle.questions.specs.declared.Refusal.{Refusal}
 
--- The answer r of a call that asks qs: its number is that of the first question answered no, and where no question is, r is the answer promised.
+-- The answer r of a call that asks qs: its number is that of the first question answered no, and where no question is, r is `Ok` of what is promised.
 pub record Answered {A : Type 0} (qs : List Question) (promised : A) (r : Result A Refusal) : Type 0 where
   pub number : number_of r ≡ ask qs
   pub accepted : ask qs ≡ 0 → r ≡ Ok promised
@@ -13,8 +13,8 @@ pub record Answered {A : Type 0} (qs : List Question) (promised : A) (r : Result
 unfoldable pub if_accepted : {A : Type 0} → List Question → A → A → A
 if_accepted qs new old = elim (ask qs) [ zero ↦ new | suc n ↦ old ]
 
--- A call that answers an A and is lent a B: its questions; its answer where it accepts; and what the buffers hold then, the new, or where it
--- refuses, the old.
+-- A call that hands back an A and is lent a B: its questions; what it hands back where it accepts; and what the buffers hold then, the new, or where
+-- it refuses, the old.
 pub record Call (A B : Type 0) : Type 0 where
   pub questions : List Question
   pub answer : A

@@ -6,7 +6,7 @@ use Rattle.planes.specs.Planes.{Frame, Planes, planes, lengths}
 use Rattle.questions.specs.Settings.{ceiling_of}
 use Rattle.questions.specs.Questions.{Question, question, frame_questions, samples_question}
 use Rattle.questions.specs.declared.Settings.{Settings}
-use Rattle.questions.specs.declared.Rooms.{Rooms as Lengths}
+use Rattle.questions.specs.declared.Lengths.{Lengths}
 
 -- ---- what is lent
 pub record Lent : Type 0 where

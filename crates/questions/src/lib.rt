@@ -2,22 +2,54 @@
 #![tactic(auto)]
 
 ghost use Rattle.std.specs.Prelude.{◌≡◌, max, ◌≤◌};
-ghost use Rattle.planes.specs.Layout.{two_levels};
+ghost use Rattle.planes.specs.Layout.{red_row, red_column, two_levels};
 ghost use Rattle.questions.specs.Settings.{framed, rounds_of, ceiling_of};
 ghost use Rattle.questions.specs.Questions.{ask, all_at_most, size_questions, shape_questions, settings_questions, frame_questions};
 ghost use Rattle.questions.specs.Lent.{rooms_in, wide_enough, buffer_questions, lent_questions};
 ghost use Rattle.questions.specs.Refusals.{refusal_number, number_of};
 
+use std::error::Error;
+use std::fmt;
+
+// The largest sample, and the largest threshold.
+pub const CEILING: u16 = 4095;
+
 // What of a frame turns beside its samples. The layout is no enum: any byte may come, since question 3 is asked of it.
-#[derive(Clone, Copy, Debug, PartialEq, Eq)]
+#[derive(Clone, Copy, Debug, Default, PartialEq, Eq)]
 pub struct Shape {
     pub width: usize,
     pub height: usize,
     pub layout: u8,
 }
 
+impl Shape {
+    // The parity of red's rows.
+    #[tactic(auto, unfolding(planes::specs::Layout::red_row))]
+    pub fn red_row(self) -> u8
+        ensures { (result ≡ red_row self.layout) × (result ≤ 1) }
+    {
+        self.layout / 2 % 2
+    }
+
+    // The parity of red's columns.
+    #[tactic(auto, unfolding(planes::specs::Layout::red_column))]
+    pub fn red_column(self) -> u8
+        ensures { (result ≡ red_column self.layout) × (result ≤ 1) }
+    {
+        self.layout % 2
+    }
+
+    // Whether a frame of this layout has two levels.
+    #[tactic(auto, unfolding(planes::specs::Layout::two_levels))]
+    pub fn two_levels(self) -> bool
+        ensures { result ≡ two_levels self.layout }
+    {
+        4 <= self.layout
+    }
+}
+
 // A frame's settings, which do not turn.
-#[derive(Clone, Copy, Debug, PartialEq, Eq)]
+#[derive(Clone, Copy, Debug, Default, PartialEq, Eq)]
 pub struct Settings {
     pub rounds: u8,
     pub threshold: u16,
@@ -37,7 +69,7 @@ impl Settings {
     pub fn ceiling(self) -> u16
         ensures { result ≡ ceiling_of self }
     {
-        4095
+        CEILING
     }
 }
 
@@ -80,7 +112,7 @@ pub enum Refusal {
 }
 
 impl Refusal {
-    // Document 01's number of it.
+    // Its number in document 01 or 02.
     pub fn number(self) -> u32
         ensures { result ≡ refusal_number self }
     {
@@ -107,6 +139,15 @@ impl Refusal {
         }
     }
 }
+
+// A refusal as the programs print it.
+impl fmt::Display for Refusal {
+    fn fmt<W: fmt::Write>(&self, f: &mut fmt::Formatter<W>) -> fmt::Result {
+        write!(f, "refused {}", self.number())
+    }
+}
+
+impl Error for Refusal {}
 
 // An answer's number: a refusal's, or 0.
 pub fn number<T: Drop>(answer: Result<T, Refusal>) -> u32
@@ -149,25 +190,25 @@ pub fn ask_shape(shape: Shape) -> Result<(), Refusal>
 }
 
 // Questions 4 and 5.
-pub fn ask_settings(given: Settings) -> Result<(), Refusal>
-    ensures { number_of result ≡ ask (settings_questions given) }
+pub fn ask_settings(settings: Settings) -> Result<(), Refusal>
+    ensures { number_of result ≡ ask (settings_questions settings) }
 {
-    if 64 < given.rounds {
+    if 64 < settings.rounds {
         return Err(Refusal::Rounds);
     }
-    let top = given.ceiling();
-    if top < given.threshold {
+    let top = settings.ceiling();
+    if top < settings.threshold {
         return Err(Refusal::Threshold);
     }
     Ok(())
 }
 
 // Questions 1 to 5 of a frame that is to be finished.
-pub fn ask_frame(shape: Shape, given: Settings) -> Result<(), Refusal>
-    ensures { number_of result ≡ ask (frame_questions shape.width shape.height shape.layout given) }
+pub fn ask_frame(shape: Shape, settings: Settings) -> Result<(), Refusal>
+    ensures { number_of result ≡ ask (frame_questions shape.width shape.height shape.layout settings) }
 {
     ask_shape(shape)?;
-    ask_settings(given)
+    ask_settings(settings)
 }
 
 // Question 9: whether no sample is above `top`. A running maximum, which vectorises; a test at each sample does not.
@@ -181,28 +222,18 @@ pub fn samples_within(top: u16, samples: &[u16]) -> bool
     most <= top
 }
 
-// Whether a frame of this layout has two levels.
-#[tactic(auto, unfolding(planes::specs::Layout::two_levels))]
-pub fn two_levels(layout: u8) -> bool
-    ensures { result ≡ two_levels layout }
-{
-    4 <= layout
-}
-
 // Question 18, where a plane has `count` samples and the wide work buffer `room` numbers. One level does not ask it.
+#[tactic(auto, unfolding(crate::specs::Lent::wide_enough))]
 fn wide_enough(two: bool, count: usize, room: usize) -> bool
     requires { count ≤ 4194304 }
     ensures { result ≡ wide_enough two count room }
 {
-    if !two {
-        return true;
-    }
-    8 * count <= room
+    !two || 8 * count <= room
 }
 
 // How many numbers the buffers hold that a call is lent beside the mosaic.
 #[derive(Clone, Copy)]
-pub struct Rooms {
+pub struct Lengths {
     pub red: usize,
     pub green: usize,
     pub blue: usize,
@@ -216,7 +247,7 @@ fn ask_buffers(
     two: bool,
     count: usize,
     mosaic: &[u16],
-    room: Rooms,
+    room: Lengths,
 ) -> Result<(), Refusal>
     requires { count ≤ 4194304 }
     ensures { number_of result ≡ ask (buffer_questions top two count mosaic.now (rooms_in room)) }
@@ -251,13 +282,13 @@ pub fn ask_lent(
     shape: Shape,
     settings: Settings,
     mosaic: &[u16],
-    room: Rooms,
+    room: Lengths,
 ) -> Result<(), Refusal>
     ensures { number_of result ≡ ask (lent_questions (framed shape mosaic.now) settings (rooms_in room)) }
 {
     ask_frame(shape, settings)?;
     let top = settings.ceiling();
-    let two = two_levels(shape.layout);
+    let two = shape.two_levels();
     let count = shape.width * shape.height;
     ask_buffers(top, two, count, mosaic, room)
 }

@@ -15,7 +15,7 @@ ghost use Rattle.rounds.specs.Calls.{planes_questions, rounds_questions, rounds_
 ghost use Rattle.rounds.specs.Colours.{red_of, blue_of};
 
 use one_level::One;
-use questions::{Refusal, Rooms, Settings, Shape};
+use questions::{Refusal, Lengths, Settings, Shape};
 use two_levels::Two;
 use working_plane::Colour;
 
@@ -49,7 +49,7 @@ fn ask_rounds(
 ) -> Result<(), Refusal>
     ensures { number_of result ≡ ask (rounds_questions (framed shape mosaic.now) settings (lent red.now green.now blue.now work.now wide_work.now)) }
 {
-    let room = Rooms {
+    let room = Lengths {
         red: red.len(),
         green: green.len(),
         blue: blue.len(),
@@ -81,12 +81,12 @@ fn rewrite_colours(
     let reds = Colour {
         width: shape.width,
         height: shape.height,
-        row: usize::from(shape.layout / 2 % 2),
-        column: usize::from(shape.layout % 2),
+        row: usize::from(shape.red_row()),
+        column: usize::from(shape.red_column()),
         threshold: settings.threshold,
     };
     // from here on the level is a type
-    if questions::two_levels(shape.layout) {
+    if shape.two_levels() {
         working_plane::rewrite_both::<Two>(reds, top, rounds, mosaic, red, green, blue, work);
     } else {
         working_plane::rewrite_both::<One>(reds, top, rounds, mosaic, red, green, blue, work);
@@ -100,7 +100,7 @@ fn clear(shape: Shape, work: &mut [i32], wide_work: &mut [i64])
 {
     let needed = 8 * (shape.width * shape.height);
     work[..needed].fill(0);
-    if !questions::two_levels(shape.layout) {
+    if !shape.two_levels() {
         return;
     }
     wide_work[..needed].fill(0);
