@@ -5,7 +5,7 @@ use lib.Dec.{leb, ltb, eqb}
 use Rattle.planes.specs.Planes.{Frame, Planes}
 use Rattle.questions.specs.Settings.{framed}
 use Rattle.questions.specs.Questions.{Question, question, ask, size_questions}
-use Rattle.questions.specs.Refusals.{refusal_number}
+use Rattle.questions.specs.Refusals.{refusal_number, number_of}
 use Rattle.questions.specs.Calls.{Answered, Call, Outcome, Numbered, plain_call}
 use Rattle.questions.specs.declared.Refusal.{Refusal}
 use Rattle.questions.specs.declared.Shape.{Shape}
@@ -36,6 +36,12 @@ module _ {A B : Type 0} {qs : List Question} {promised : A} where
 -- numbers that equal what was told
 pub put : {A B : Type 0} {c : Call A B} {n : ℕ} {x y : B} → x ≡ y → Numbered c n y → Numbered c n x
 put p e = record { number = e.number; leaves = p ∙ e.leaves }
+
+-- Both in one, over every answer: what is put into numbers is a function of it, which of the one promised gives the new, and of a refused one the old.
+pub told : {A B : Type 0} {qs : List Question} {promised : A} (value : Result A Refusal → B) (new old : B) → value (Ok promised) ≡ new → ((why : Refusal) → value (Err why) ≡ old)
+    → (r : Result A Refusal) → Answered qs promised r → Numbered (plain_call qs new old) (number_of r) (value r)
+told value new old y n (Ok a) e = told_yes e (λ a. value (Ok a)) new old y
+told value new old y n (Err why) e = put (n why) (told_no e new old refl)
 
 -- and a buffer beside them
 module _ {A B D : Type 0} {c : Call A B} {after : B} where
