@@ -113,17 +113,10 @@ fn ask_split(
     if values.len() != count {
         return Err(Refusal::GivenLength);
     }
-    if room1 != count {
-        return Err(Refusal::FilledLength);
-    }
-    if room2 != count {
-        return Err(Refusal::FilledLength);
-    }
-    if room3 != count {
-        return Err(Refusal::FilledLength);
-    }
-    if room4 != count {
-        return Err(Refusal::FilledLength);
+    for room in [room1, room2, room3, room4] {
+        if room != count {
+            return Err(Refusal::FilledLength);
+        }
     }
     if !values_within(8190, values) {
         return Err(Refusal::BankValue);
@@ -222,17 +215,10 @@ fn ask_bands(
     requires { Distance most }
     ensures { number_of result ≡ ask (values_questions (nat_abs most) (bands band1.now band2.now band3.now band4.now)) }
 {
-    if !values_within(most, band1) {
-        return Err(Refusal::BankValue);
-    }
-    if !values_within(most, band2) {
-        return Err(Refusal::BankValue);
-    }
-    if !values_within(most, band3) {
-        return Err(Refusal::BankValue);
-    }
-    if !values_within(most, band4) {
-        return Err(Refusal::BankValue);
+    for values in [band1, band2, band3, band4] {
+        if !values_within(most, values) {
+            return Err(Refusal::BankValue);
+        }
     }
     Ok(())
 }
@@ -252,17 +238,10 @@ fn ask_join<'a>(
 {
     questions::ask_sizes(1, width, height)?;
     let count = width * height;
-    if band1.len() != count {
-        return Err(Refusal::GivenLength);
-    }
-    if band2.len() != count {
-        return Err(Refusal::GivenLength);
-    }
-    if band3.len() != count {
-        return Err(Refusal::GivenLength);
-    }
-    if band4.len() != count {
-        return Err(Refusal::GivenLength);
+    for band in [band1, band2, band3, band4] {
+        if band.len() != count {
+            return Err(Refusal::GivenLength);
+        }
     }
     if room != count {
         return Err(Refusal::FilledLength);
