@@ -20,7 +20,7 @@ fn is_within(most: i32, value: i32) -> bool
     requires { Distance most }
     ensures { result ≡ leb (nat_abs value) (nat_abs most) }
 {
-    -most <= value && value <= most
+    (-most..=most).contains(&value)
 }
 
 // Question 15: whether no value is farther from 0 than `most`. All are looked at, even after one that is: only so is this a loop
