@@ -1,5 +1,5 @@
 -- `bank::ask_bands` meets its contract: band after band.
-use mathlib.Core.Path.{refl, sym, ◌≡◌, ◌∙◌, ap}
+use mathlib.Core.Path.{sym, ◌≡◌, ◌∙◌, ap}
 use native.Mathlib.Omega.{arith}
 use lib.IntN.{ℤ, nat_abs}
 use mir.Syntax.{w32}
@@ -15,9 +15,6 @@ use Rattle.bank.proofs.ask_bands.Goals.{Start}
 same : (s : goal.Start) → let a = s.args in
     ask (values_questions (nat_abs (to_z w32 (of_z w32 a.most))) (bands a.band1.now a.band2.now a.band3.now a.band4.now)) ≡ ask (values_questions (nat_abs a.most) (bands a.band1.now a.band2.now a.band3.now a.band4.now))
 same s = let a = s.args in ap (λ (z : ℤ). ask (values_questions (nat_abs z) (bands a.band1.now a.band2.now a.band3.now a.band4.now))) (back s.ranges.most)
-
-pub loop-values-init : goal.loop-values-init
-loop-values-init c = refl
 
 pub returns-then-not-values_within : goal.returns-then-not-values_within
 returns-then-not-values_within c =

@@ -19,9 +19,6 @@ returns-in_err-ask_sizes-clause-number c = refused-first _ _ _ _ (search rules) 
 pub overflow_mul-count : goal.overflow_mul-count
 overflow_mul-count c = record { fits = omega (arith, (sizes_known _ _ _ _ _ c.in_ok-ask_sizes.ensures tt refl).area) }
 
-pub loop-band-init : goal.loop-band-init
-loop-band-init c = refl
-
 pub returns-then-band-count-clause-number : goal.returns-then-band-count-clause-number
 returns-then-band-count-clause-number c =
     let short = each_no 6 (have_count (c.args.width * c.args.height)) _ c.loop-band.band-index _ (omega arith) (ne_eqb _ _ c.if-band-count.true) ∙ c.loop-band.invariant in

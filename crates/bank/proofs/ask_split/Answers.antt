@@ -21,9 +21,6 @@ overflow_mul-count c = record { fits = omega (arith, (sizes_known _ _ _ _ _ c.in
 pub returns-then-values-count-clause-number : goal.returns-then-values-count-clause-number
 returns-then-values-count-clause-number c = ask_then _ _ _ _ c.in_ok-ask_sizes.ensures tt refl (search asking depth 24)
 
-pub loop-room-init : goal.loop-room-init
-loop-room-init c = refl
-
 pub returns-then-room-count-clause-number : goal.returns-then-room-count-clause-number
 returns-then-room-count-clause-number c =
     let given = eq-eqb _ _ c.if-values-count.false in
