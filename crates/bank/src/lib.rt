@@ -42,7 +42,7 @@ struct GivenPlane<'a> {
     width: usize,
     height: usize,
     values: &'a [i32],
-    ghost fit: { Sizes 1 width height × Plane to_split values.now width height },
+    ghost fits: { Sizes 1 width height × Plane to_split values.now width height },
 }
 
 impl GivenPlane<'_> {
@@ -164,7 +164,7 @@ struct GivenBands<'a> {
     band2: &'a [i32],
     band3: &'a [i32],
     band4: &'a [i32],
-    ghost fit: { Sizes 1 width height × Plane to_join band1.now width height × Plane to_join band2.now width height × Plane to_join band3.now width height × Plane to_join band4.now width height },
+    ghost fits: { Sizes 1 width height × Plane to_join band1.now width height × Plane to_join band2.now width height × Plane to_join band3.now width height × Plane to_join band4.now width height },
 }
 
 impl GivenBands<'_> {

@@ -58,7 +58,7 @@ accepted c =
 pub invariant_of-result : goal.invariant_of-result
 invariant_of-result c =
     let k = joinable _ _ _ _ (accepted (goal.at.invariant_of-result c).In_ok-ask_bands) in
-    record { fit = (k.sizes, k.plane1, k.plane2, k.plane3, k.plane4) }
+    record { fits = (k.sizes, k.plane1, k.plane2, k.plane3, k.plane4) }
 
 pub returns-clause-number : goal.returns-clause-number
 returns-clause-number c = accepted (goal.at.returns-clause-number c).In_ok-ask_bands

@@ -53,7 +53,7 @@ accepted c =
     ask_then _ _ _ _ c.in_ok-ask_sizes.ensures tt refl (search asking depth 24)
 
 pub invariant_of-result : goal.invariant_of-result
-invariant_of-result c = let k = splittable _ _ _ _ (accepted (goal.at.invariant_of-result c).Else-not-values_within) in record { fit = (k.sizes, k.plane) }
+invariant_of-result c = let k = splittable _ _ _ _ (accepted (goal.at.invariant_of-result c).Else-not-values_within) in record { fits = (k.sizes, k.plane) }
 
 pub returns-clause-number : goal.returns-clause-number
 returns-clause-number c = accepted (goal.at.returns-clause-number c).Else-not-values_within

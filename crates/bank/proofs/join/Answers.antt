@@ -17,7 +17,7 @@ join_rows-requires c =
     let a = c.args in
     let g = c.in_ok-given in
     let k = joinable a.width a.height (bands a.band1.now a.band2.now a.band3.now a.band4.now) (length a.sums.now) g.ensures.number in
-    let most = g.given.fit.0.width_to in
+    let most = g.given.fits.0.width_to in
     (omega arith, omega arith, k.buffer ∙ sym (λ m. g.ensures.of_bands.0 m * g.ensures.of_bands.1 m))
 
 pub returns : goal.returns

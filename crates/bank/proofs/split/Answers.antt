@@ -16,7 +16,7 @@ split_rows-requires c =
     let a = c.args in
     let g = c.in_ok-given in
     let k = splittable a.width a.height a.plane.now _ g.ensures.number in
-    let most = g.given.fit.0.width_to in
+    let most = g.given.fits.0.width_to in
     let count = sym (λ m. g.ensures.of_plane.0 m * g.ensures.of_plane.1 m) in
     record { width_in_bounds = (omega arith, omega arith); band1_len = (k.room1 ∙ count, k.room2 ∙ count, k.room3 ∙ count, k.room4 ∙ count) }
 

@@ -8,25 +8,25 @@ use lib.ListN.{length}
 use borrow.Author.Rules.{rules}
 use Rattle.planes.proofs.Planes.{row_room}
 use Rattle.lines.specs.Lines.{Runs}
-use Rattle.bank.specs.Calls.{bands}
+use Rattle.bank.specs.Calls.{bands, to_join}
 use Rattle.bank.proofs.Rows.{row_small, NearFive, starts, five-rows, joined_run, sums_laid}
 use Rattle.bank.proofs.GivenBands.join_row.Goals as goal
 use Rattle.bank.proofs.GivenBands.join_row.Goals.{After-reflected-2, Start}
 
 pub overflow_mul-a : goal.overflow_mul-a
-overflow_mul-a c = record { fits = omega (arith, row_small c.args.self.now.fit.0 c.reflected_before.result c.reflected_before.ensures.1) }
+overflow_mul-a c = record { fits = omega (arith, row_small c.args.self.now.fits.0 c.reflected_before.result c.reflected_before.ensures.1) }
 
 pub overflow_mul-b : goal.overflow_mul-b
-overflow_mul-b c = record { fits = omega (arith, row_small c.args.self.now.fit.0 c.reflected_before-2.result c.reflected_before-2.ensures.1) }
+overflow_mul-b c = record { fits = omega (arith, row_small c.args.self.now.fits.0 c.reflected_before-2.result c.reflected_before-2.ensures.1) }
 
 pub overflow_mul-here : goal.overflow_mul-here
-overflow_mul-here c = record { fits = omega (arith, row_small c.args.self.now.fit.0 c.args.r c.requires.row) }
+overflow_mul-here c = record { fits = omega (arith, row_small c.args.self.now.fits.0 c.args.r c.requires.row) }
 
 pub overflow_mul-d : goal.overflow_mul-d
-overflow_mul-d c = record { fits = omega (arith, row_small c.args.self.now.fit.0 c.reflected.result c.reflected.ensures.1) }
+overflow_mul-d c = record { fits = omega (arith, row_small c.args.self.now.fits.0 c.reflected.result c.reflected.ensures.1) }
 
 pub overflow_mul-e : goal.overflow_mul-e
-overflow_mul-e c = record { fits = omega (arith, row_small c.args.self.now.fit.0 c.reflected-2.result c.reflected-2.ensures.1) }
+overflow_mul-e c = record { fits = omega (arith, row_small c.args.self.now.fits.0 c.reflected-2.result c.reflected-2.ensures.1) }
 
 -- the five rows
 near : (c : goal.After-reflected-2)
@@ -58,7 +58,7 @@ FiveRows s a b d e l = Runs 67108864 l (starts s.args.self.now.width s.args.r a 
 rows : (s : goal.Start) {a b d e : ℕ} → NearFive s.args.self.now.width s.args.self.now.height s.args.r a b d e
     → FiveRows s a b d e s.args.self.now.band1.now × FiveRows s a b d e s.args.self.now.band2.now × FiveRows s a b d e s.args.self.now.band3.now × FiveRows s a b d e s.args.self.now.band4.now
 rows s n =
-    let z = s.args.self.now.fit in
+    let z = s.args.self.now.fits in
     (five-rows n z.1 67108864 (omega arith), five-rows n z.2 67108864 (omega arith), five-rows n z.3 67108864 (omega arith), five-rows n z.4 67108864 (omega arith))
 
 pub join_lines-requires : goal.join_lines-requires
@@ -74,16 +74,16 @@ join_lines-requires-2 c =
 pub join_along-requires : goal.join_along-requires
 join_along-requires c =
     let a = c.args in
-    let z = c.args.self.now.fit in
+    let z = c.args.self.now.fits in
     let n = near (goal.at.join_along-requires c).After-reflected-2 in
     record {
       le_n = (
         z.0.width_from,
         z.0.width_to,
         omega (arith, c.join_lines.auto.out),
-        joined_run n a.self.now.band1.now a.self.now.band3.now a.low.now (low_room (goal.at.join_along-requires c).Start) c.join_lines.ensures z.1 z.3 67108864 (omega arith),
+        joined_run n _ _ a.low.now (low_room (goal.at.join_along-requires c).Start) c.join_lines.ensures {m = to_join} (search rules) (search rules) 67108864 (omega arith),
         omega (arith, c.join_lines-2.auto.out),
-        joined_run n a.self.now.band2.now a.self.now.band4.now a.high.now (high_room (goal.at.join_along-requires c).Start) c.join_lines-2.ensures z.2 z.4 67108864 (omega arith),
+        joined_run n _ _ a.high.now (high_room (goal.at.join_along-requires c).Start) c.join_lines-2.ensures {m = to_join} (search rules) (search rules) 67108864 (omega arith),
       );
       n_in_bounds = omega (arith, room (goal.at.join_along-requires c).Start);
     }

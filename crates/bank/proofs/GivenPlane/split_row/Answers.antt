@@ -11,13 +11,13 @@ use Rattle.bank.proofs.GivenPlane.split_row.Goals as goal
 use Rattle.bank.proofs.GivenPlane.split_row.Goals.{After-reflected, Start}
 
 pub overflow_mul-above : goal.overflow_mul-above
-overflow_mul-above c = record { fits = omega (arith, row_small c.args.self.now.fit.0 c.reflected_before.result c.reflected_before.ensures.1) }
+overflow_mul-above c = record { fits = omega (arith, row_small c.args.self.now.fits.0 c.reflected_before.result c.reflected_before.ensures.1) }
 
 pub overflow_mul-here : goal.overflow_mul-here
-overflow_mul-here c = record { fits = omega (arith, row_small c.args.self.now.fit.0 c.args.r c.requires.row) }
+overflow_mul-here c = record { fits = omega (arith, row_small c.args.self.now.fits.0 c.args.r c.requires.row) }
 
 pub overflow_mul-below : goal.overflow_mul-below
-overflow_mul-below c = record { fits = omega (arith, row_small c.args.self.now.fit.0 c.reflected.result c.reflected.ensures.1) }
+overflow_mul-below c = record { fits = omega (arith, row_small c.args.self.now.fits.0 c.reflected.result c.reflected.ensures.1) }
 
 -- the three rows
 near : (c : goal.After-reflected)
@@ -25,7 +25,7 @@ near : (c : goal.After-reflected)
 near c = record { inside = c.requires.row; is_above = ap (λ (i : ℕ). i * c.args.self.now.width) c.reflected_before.ensures.0; is_below = ap (λ (i : ℕ). i * c.args.self.now.width) c.reflected.ensures.0 }
 
 pub split_line-requires : goal.split_line-requires
-split_line-requires c = record { run = three-rows (near (goal.at.split_line-requires c).After-reflected) c.args.self.now.values.now c.args.self.now.fit.1 134217728 (omega arith); n_in_bounds = (omega arith, omega arith) }
+split_line-requires c = record { run = three-rows (near (goal.at.split_line-requires c).After-reflected) c.args.self.now.values.now c.args.self.now.fits.1 134217728 (omega arith); n_in_bounds = (omega arith, omega arith) }
 
 -- row r has its place in a band
 room : (s : goal.Start) → s.args.r * s.args.self.now.width + s.args.self.now.width ≤ s.args.self.now.width * s.args.self.now.height
@@ -40,14 +40,14 @@ high_room s = omega arith
 pub split_along-requires : goal.split_along-requires
 unfolding gain low_split
 split_along-requires c =
-    let z = c.args.self.now.fit.0 in
-    record { le_n = (z.width_from, z.width_to, omega arith, three_run (near (goal.at.split_along-requires c).After-reflected) c.args.self.now.values.now low_split c.args.low.now (low_room (goal.at.split_along-requires c).Start) c.split_line.ensures.low_after c.args.self.now.fit.1 134217728 (omega arith)); n_in_bounds = (omega (arith, room (goal.at.split_along-requires c).Start), omega (arith, room (goal.at.split_along-requires c).Start)) }
+    let z = c.args.self.now.fits.0 in
+    record { le_n = (z.width_from, z.width_to, omega arith, three_run (near (goal.at.split_along-requires c).After-reflected) c.args.self.now.values.now low_split c.args.low.now (low_room (goal.at.split_along-requires c).Start) c.split_line.ensures.low_after c.args.self.now.fits.1 134217728 (omega arith)); n_in_bounds = (omega (arith, room (goal.at.split_along-requires c).Start), omega (arith, room (goal.at.split_along-requires c).Start)) }
 
 pub split_along-requires-2 : goal.split_along-requires-2
 unfolding gain high_split
 split_along-requires-2 c =
-    let z = c.args.self.now.fit.0 in
-    record { le_n = (z.width_from, z.width_to, omega (arith, c.split_line.auto.high, c.requires.width_in_bounds.1), three_run (near (goal.at.split_along-requires-2 c).After-reflected) c.args.self.now.values.now high_split c.args.high.now (high_room (goal.at.split_along-requires-2 c).Start) c.split_line.ensures.high_after c.args.self.now.fit.1 134217728 (omega arith)); n_in_bounds = (omega (arith, room (goal.at.split_along-requires-2 c).Start), omega (arith, room (goal.at.split_along-requires-2 c).Start)) }
+    let z = c.args.self.now.fits.0 in
+    record { le_n = (z.width_from, z.width_to, omega (arith, c.split_line.auto.high, c.requires.width_in_bounds.1), three_run (near (goal.at.split_along-requires-2 c).After-reflected) c.args.self.now.values.now high_split c.args.high.now (high_room (goal.at.split_along-requires-2 c).Start) c.split_line.ensures.high_after c.args.self.now.fits.1 134217728 (omega arith)); n_in_bounds = (omega (arith, room (goal.at.split_along-requires-2 c).Start), omega (arith, room (goal.at.split_along-requires-2 c).Start)) }
 
 pub returns : goal.returns
 unfolding split low_split high_split
