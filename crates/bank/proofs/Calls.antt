@@ -1,14 +1,16 @@
 -- The laws of the bank's calls: what an accepted call knows, and what the two leave one after the other.
 -- Assumes nothing.
 use mathlib.Core.Path.{◌≡◌, refl, sym, ◌∙◌, ap, subst}
-use mathlib.Core.Bool.{true}
+use mathlib.Core.Bool.{Bool, true, false}
 use mathlib.Core.List.{List, map}
+use Rattle.std.proofs.Common.{Bor}
+use Rattle.std.proofs.lemmas.List.{at_drop_more, at_drop_all}
 use Prim.Native.Nat.{ℕ, ◌+◌, ◌*◌, ◌/◌, ◌%◌, ◌≤◌, ◌<◌}
 use native.Mathlib.Nat.{div-add-mod'}
 use native.Mathlib.Omega.{arith}
 use lib.Dec.{eqb}
 use lib.IntN.{ℤ, pos, nat_abs, ◌*ℤ◌}
-use lib.ListN.{length}
+use lib.ListN.{length, drop, get_or}
 use borrow.Author.Tests.{eq-eqb, eqb-true}
 use Rattle.integers.specs.Lists.{tabulate}
 use Rattle.integers.proofs.Tests.{is_true, true_is}
@@ -16,10 +18,10 @@ use Rattle.integers.proofs.Lists.{length-tabulate, get_or-tabulate, tabulate_con
 use Rattle.planes.specs.Planes.{listing, plane_of, Sizes}
 use Rattle.planes.specs.Lists.{value}
 use Rattle.planes.proofs.Planes.{row_inside, column_inside, place_inside, length-listing, plane_of-listing, listing_agree}
-use Rattle.questions.specs.Questions.{ask, all_at_most, size_questions}
+use Rattle.questions.specs.Questions.{Question, question, ask, all_at_most, size_questions}
 use Rattle.questions.specs.Refusals.{Answer, number_of}
 use Rattle.questions.specs.Calls.{Outcome}
-use Rattle.questions.proofs.Asking.{all_yes, all_yes_split, ask_zero, between_yes, sizes_is, all_at_most_at, all_at_most_by}
+use Rattle.questions.proofs.Asking.{ask_end, ask_no, ask_yes, all_yes, all_yes_split, ask_zero, between_yes, sizes_is, all_at_most_at, all_at_most_by}
 use Rattle.questions.proofs.Answering.{new_left}
 use Rattle.filters.specs.Bank.{Bands, split}
 use Rattle.filters.proofs.Reconstruction.{reconstruct}
@@ -27,6 +29,30 @@ use Rattle.filters.proofs.Ranges.{split_range}
 use Rattle.filters.proofs.Turned.{join_commutes}
 use Rattle.bank.specs.Planes.{Plane, plane, bands_of}
 use Rattle.bank.specs.Calls.{bands, band_lengths, to_split, to_join, splitting_questions, split_questions, joining_questions, join_questions, split_lists, join_list, split_call, join_call}
+
+-- ---- one question, asked of one after another: those that are left ask what all ask
+module _ {A : Type 0} (n : ℕ) (f : A → Bool) where
+  abbrev pub each : List A → List Question
+  each l = map (λ x. question n (f x)) l
+
+  pub each_no : (l : List A) (k : ℕ) (d : A) → k < length l → f (get_or l k d) ≡ false → n ≡ ask (each (drop k l))
+  each_no l k d h e = ask_no _ n _ e ∙ sym (at_drop_more (λ x. ask (each x)) l k d h)
+
+  pub each_yes : (l : List A) (k : ℕ) (d : A) → k < length l → f (get_or l k d) ≡ true → ask (each (drop (k + 1) l)) ≡ ask (each (drop k l))
+  each_yes l k d h e = ask_yes _ _ n _ e refl ∙ sym (at_drop_more (λ x. ask (each x)) l k d h)
+
+  pub each_end : (l : List A) (k : ℕ) → length l ≤ k → 0 ≡ ask (each (drop k l))
+  each_end l k h = ask_end ∙ sym (at_drop_all (λ x. ask (each x)) l k h)
+
+-- of rooms, whether they are `count`; of bands, whether they have `count` numbers, and whether their values are within `most`
+abbrev pub is_count : ℕ → ℕ → Bool
+is_count count room = eqb room count
+
+abbrev pub have_count : ℕ → Bor (List ℤ) → Bool
+have_count count band = eqb (length band.now) count
+
+abbrev pub are_within : ℤ → Bor (List ℤ) → Bool
+are_within most band = all_at_most (nat_abs most) (map nat_abs band.now)
 
 -- ---- what an accepted call knows
 -- how far from 0 the values are, one by one

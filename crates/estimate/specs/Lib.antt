@@ -1,3 +1,2 @@
 pub mod Estimates
 pub mod Calls
-pub mod Laid

@@ -1,7 +1,7 @@
 // Document 01's first estimates: a mosaic into three planes.
 #![tactic(auto)]
 
-ghost use Rattle.std.specs.Prelude.{◌≡◌, true, not, ◌+◌, ◌*◌, ◌≤◌, ◌<◌, length};
+ghost use Rattle.std.specs.Prelude.{◌≡◌, true, not, ℕ, ◌+◌, ◌*◌, ◌≤◌, ◌<◌, length};
 ghost use Rattle.integers.specs.Lists.{overwrite};
 ghost use Rattle.planes.specs.Layout.{on_red_row, on_red_column, by_parity};
 ghost use Rattle.planes.specs.Planes.{planes, listing, plane_of};
@@ -11,7 +11,6 @@ ghost use Rattle.questions.specs.Refusals.{number_of};
 ghost use Rattle.questions.specs.Calls.{Outcome};
 ghost use Rattle.neighbourhood.specs.Inner.{Mosaic, inner};
 ghost use Rattle.neighbourhood.specs.Place.{neighbourhood as neighbourhood_of, around, green_at as green_by, bilinear};
-ghost use Rattle.estimate.specs.Laid.{Laid};
 ghost use Rattle.estimate.specs.Estimates.{estimate as estimate_of, estimates};
 ghost use Rattle.estimate.specs.Calls.{estimate_questions, estimate_call};
 
@@ -19,19 +18,19 @@ use neighbourhood::{Frame, Square};
 use questions::{Refusal, Shape};
 
 // Whether a row has red's parity.
-#[tactic(auto, unfolding(planes::specs::Layout::on_red_row, planes::specs::Layout::red_row))]
-fn has_red_row(layout: u8, r: usize) -> bool
-    ensures { result ≡ on_red_row layout r }
+#[tactic(auto, unfolding(planes::specs::Layout::on_red_row))]
+fn has_red_row(shape: Shape, r: usize) -> bool
+    ensures { result ≡ on_red_row shape.layout r }
 {
-    r % 2 == usize::from(layout / 2 % 2)
+    r % 2 == usize::from(shape.red_row())
 }
 
 // Whether a column has red's parity. It is asked in loops over vectors, where a byte takes the least room.
-#[tactic(auto, unfolding(planes::specs::Layout::on_red_column, planes::specs::Layout::red_column))]
-fn has_red_column(layout: u8, c: usize) -> bool
-    ensures { result ≡ on_red_column layout c }
+#[tactic(auto, unfolding(planes::specs::Layout::on_red_column))]
+fn has_red_column(shape: Shape, c: usize) -> bool
+    ensures { result ≡ on_red_column shape.layout c }
 {
-    (c % 2) as u8 == layout % 2
+    (c % 2) as u8 == shape.red_column()
 }
 
 // Row r of the three planes, `count` places from `first` on, wherever they lie. Blue has the other parity than red in row and in column. The planes stay
@@ -53,10 +52,10 @@ fn estimate_part(
     ensures blue_after { blue.new ≡ overwrite blue.old (r * frame.now.shape.width + first) count (λ k. (estimates top frame.now r (first + k)).blue) }
 {
     let at = r * frame.shape.width + first;
-    let row = has_red_row(frame.shape.layout, r);
+    let row = has_red_row(frame.shape, r);
     for k in 0..count {
         let n = frame.neighbourhood(r, first + k);
-        let column = has_red_column(frame.shape.layout, first + k);
+        let column = has_red_column(frame.shape, first + k);
         red[at + k] = neighbourhood::bilinear_estimate(n, row, column);
         green[at + k] = neighbourhood::green_at(top, n, row, column);
         blue[at + k] = neighbourhood::bilinear_estimate(n, !row, !column);
@@ -76,12 +75,12 @@ fn estimate_inside<F: Fn(Square, bool) -> u16>(
     requires part { (inner frame.now.shape.height r ≡ true) × (r < frame.now.shape.height) × (2 ≤ first) × (first + count + 2 ≤ frame.now.shape.width) }
     requires plane_len { length plane.old ≡ frame.now.shape.width * frame.now.shape.height }
     requires callable { F.IsAlwaysCallable estimated }
-    ensures { Laid (λ k x. F.post estimated (neighbourhood_of frame.now.shape.width frame.now.shape.height (plane_of 0 frame.now.shape.width frame.now.samples.now) r (first + k)) (on_red_column frame.now.shape.layout (first + k)) x) plane.old (r * frame.now.shape.width + first) count plane.new }
+    ensures { (f : ℕ → ℕ) → ((k x : ℕ) → k < count → F.post estimated (neighbourhood_of frame.now.shape.width frame.now.shape.height (plane_of 0 frame.now.shape.width frame.now.samples.now) r (first + k)) (on_red_column frame.now.shape.layout (first + k)) x → x ≡ f k) → plane.new ≡ overwrite plane.old (r * frame.now.shape.width + first) count f }
 {
     let at = r * frame.shape.width + first;
     for k in 0..count {
         let n = frame.inside(r, first + k);
-        plane[at + k] = estimated(n, has_red_column(frame.shape.layout, first + k));
+        plane[at + k] = estimated(n, has_red_column(frame.shape, first + k));
     }
 }
 
@@ -101,7 +100,7 @@ fn estimate_inner_row(
     ensures blue_after { blue.new ≡ overwrite blue.old (r * frame.now.shape.width) frame.now.shape.width (λ c. (estimates top frame.now r c).blue) }
 {
     let count = frame.shape.width - 4;
-    let row = has_red_row(frame.shape.layout, r);
+    let row = has_red_row(frame.shape, r);
     let red_at = move |n: Square, column: bool| -> u16
         ensures { result ≡ bilinear row column (around n) }
     { neighbourhood::bilinear_estimate(n, row, column) };
@@ -194,7 +193,7 @@ pub fn estimate(
 ) -> Result<(), Refusal>
     ensures { Outcome (estimate_call ceiling (framed shape mosaic.now) (planes red.old green.old blue.old)) result (planes red.new green.new blue.new) }
 {
-    let top = 4095;
+    let top = questions::CEILING;
     ask_estimate(top, shape, mosaic, red.len(), green.len(), blue.len())?;
     let frame = Frame {
         samples: mosaic,

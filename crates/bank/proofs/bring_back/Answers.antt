@@ -19,8 +19,9 @@ use Rattle.bank.proofs.bring_back.Goals.{After-clipped}
 -- the clipped quotient, as the machine reads it
 same : (c : goal.After-clipped) → to_z w32 (of_z w32 c.clipped.result) ≡ clamp (pos 0) (pos ceiling) (rounded 1024 c.args.sum)
 same c =
-    read_is w32 c.clipped.type_inv c.clipped.ensures
-    ∙ ap (clamp (pos 0) (pos ceiling)) (read_is w32 c.rounded_quotient-quotient.type_inv c.rounded_quotient-quotient.ensures ∙ ap (rounded 1024) (back c.ranges.sum))
+    let top = read_is w32 c.from.type_inv c.from.ensures in
+    let quotient = read_is w32 c.rounded_quotient-quotient.type_inv c.rounded_quotient-quotient.ensures ∙ ap (rounded 1024) (back c.ranges.sum) in
+    read_is w32 c.clipped.type_inv c.clipped.ensures ∙ (λ i. clamp (pos 0) (top i) (quotient i))
 
 pub overflow_cast-result : goal.overflow_cast-result
 overflow_cast-result c =

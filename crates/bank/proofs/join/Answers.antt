@@ -1,34 +1,27 @@
 -- `bank::join` meets its contract: one check, and then the sums.
-use mathlib.Core.List.{List}
 use native.Mathlib.Omega.{arith}
-use lib.IntN.{ℤ}
+use Prim.Native.Nat.{◌*◌}
 use lib.ListN.{length}
 use Rattle.questions.proofs.Answering.{refuses, plain_accepts}
-use Rattle.filters.specs.Bank.{Bands}
 use Rattle.bank.specs.Calls.{bands, join_list}
 use borrow.Author.Rules.{rules}
-use mathlib.Core.Path.{refl}
-use Rattle.bank.proofs.Calls.{Joinable, joinable}
+use mathlib.Core.Path.{refl, sym, ◌∙◌}
+use Rattle.bank.proofs.Calls.{joinable}
 use Rattle.bank.proofs.join.Goals as goal
-use Rattle.bank.proofs.join.Goals.{In_ok-ask_join, Start}
 
--- the four bands
-abbrev Given : goal.Start → Bands (List ℤ)
-Given s = let a = s.args in bands a.band1.now a.band2.now a.band3.now a.band4.now
-
-pub returns-in_err-ask_join : goal.returns-in_err-ask_join
-returns-in_err-ask_join c = refuses _ (search rules) c.in_err-ask_join.ensures
-
-known : (c : goal.In_ok-ask_join) → let a = c.args in Joinable a.width a.height (Given c.before.before.before) (length a.sums.now)
-known c =
-    let a = c.args in
-    joinable a.width a.height (Given c.before.before.before) (length a.sums.now) c.in_ok-ask_join.ensures
+pub returns-in_err-given : goal.returns-in_err-given
+returns-in_err-given c = refuses _ (search rules) c.in_err-given.ensures.number
 
 pub join_rows-requires : goal.join_rows-requires
 join_rows-requires c =
-    let k = known (goal.at.join_rows-requires c).In_ok-ask_join in
-    record { sizes = (k.sizes, k.plane1, k.plane2, k.plane3, k.plane4); width_in_bounds = (omega (arith, k.sizes.width_to), omega (arith, k.sizes.width_to), k.buffer) }
+    let a = c.args in
+    let g = c.in_ok-given in
+    let k = joinable a.width a.height (bands a.band1.now a.band2.now a.band3.now a.band4.now) (length a.sums.now) g.ensures.number in
+    let most = g.given.fits.0.width_to in
+    (omega arith, omega arith, k.buffer ∙ sym (λ m. g.ensures.of_bands.0 m * g.ensures.of_bands.1 m))
 
 pub returns : goal.returns
-unfolding join_list
-returns c = plain_accepts c.in_ok-ask_join.ensures refl c.join_rows.ensures
+returns c =
+    let known = c.in_ok-given.ensures in
+    let same = known.of_bands in
+    plain_accepts known.number refl (c.join_rows.ensures ∙ (λ m. join_list (same.0 m) (same.1 m) (same.2 m)))

@@ -1,28 +1,27 @@
 -- `bank::split` meets its contract: one check, and then the bands.
 use native.Mathlib.Omega.{arith}
-use lib.ListN.{length}
+use Prim.Native.Nat.{◌*◌}
 use Rattle.questions.proofs.Answering.{refuses, plain_accepts}
-use Rattle.bank.specs.Calls.{bands, split_lists}
+use Rattle.bank.specs.Calls.{split_lists}
 use borrow.Author.Rules.{rules}
-use mathlib.Core.Path.{refl}
-use Rattle.bank.proofs.Calls.{Splittable, splittable}
+use mathlib.Core.Path.{refl, sym, ◌∙◌}
+use Rattle.bank.proofs.Calls.{splittable}
 use Rattle.bank.proofs.split.Goals as goal
-use Rattle.bank.proofs.split.Goals.{In_ok-ask_split}
 
-pub returns-in_err-ask_split : goal.returns-in_err-ask_split
-returns-in_err-ask_split c = refuses _ (search rules) c.in_err-ask_split.ensures
-
-known : (c : goal.In_ok-ask_split)
-    → let a = c.args in Splittable a.width a.height a.plane.now (bands (length a.band1.now) (length a.band2.now) (length a.band3.now) (length a.band4.now))
-known c =
-    let a = c.args in
-    splittable a.width a.height a.plane.now _ c.in_ok-ask_split.ensures
+pub returns-in_err-given : goal.returns-in_err-given
+returns-in_err-given c = refuses _ (search rules) c.in_err-given.ensures.number
 
 pub split_rows-requires : goal.split_rows-requires
 split_rows-requires c =
-    let k = known (goal.at.split_rows-requires c).In_ok-ask_split in
-    record { sizes = (k.sizes, k.plane); width_in_bounds = (omega (arith, k.sizes.width_to), omega (arith, k.sizes.width_to)); band1_len = (k.room1, k.room2, k.room3, k.room4) }
+    let a = c.args in
+    let g = c.in_ok-given in
+    let k = splittable a.width a.height a.plane.now _ g.ensures.number in
+    let most = g.given.fits.0.width_to in
+    let count = sym (λ m. g.ensures.of_plane.0 m * g.ensures.of_plane.1 m) in
+    record { width_in_bounds = (omega arith, omega arith); band1_len = (k.room1 ∙ count, k.room2 ∙ count, k.room3 ∙ count, k.room4 ∙ count) }
 
 pub returns : goal.returns
-unfolding split_lists
-returns c = plain_accepts c.in_ok-ask_split.ensures refl (λ m. bands (c.split_rows.ensures.band1_after m) (c.split_rows.ensures.band2_after m) (c.split_rows.ensures.band3_after m) (c.split_rows.ensures.band4_after m))
+returns c =
+    let known = c.in_ok-given.ensures in
+    let same = known.of_plane in
+    plain_accepts known.number refl (c.split_rows.ensures ∙ (λ m. split_lists (same.0 m) (same.1 m) (same.2 m)))

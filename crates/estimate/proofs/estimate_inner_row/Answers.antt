@@ -10,7 +10,7 @@ use Rattle.neighbourhood.specs.Place.{neighbourhood, around, bilinear, green_at}
 use Rattle.turns.specs.Operations.{Around}
 use Rattle.estimate.specs.Estimates.{estimate_at, estimates}
 use Rattle.neighbourhood.specs.declared.Frame.{Frame}
-use Rattle.estimate.proofs.Parts.{three_parts, laid_is}
+use Rattle.estimate.proofs.Parts.{three_parts}
 use Rattle.estimate.proofs.Places.{placed}
 use Rattle.estimate.proofs.estimate_inner_row.Goals as goal
 
@@ -25,7 +25,7 @@ returns-clause-red_after c =
     let f = a.frame.now in
     let room = row_room f.shape.width f.shape.height a.r (omega arith) in
     three_parts a.red.now (a.r * f.shape.width) (λ j. (estimates a.top f a.r j).red) f.shape.width (omega arith) (omega (arith, room)) c.estimate_part.ensures.red_after
-    (laid_is (λ k. (estimates a.top f a.r (2 + k)).red) c.estimate_inside.ensures (λ k x b e.
+    (c.estimate_inside.ensures (λ k. (estimates a.top f a.r (2 + k)).red) (λ k x b e.
     let own : x ≡ bilinear c.has_red_row-row.result (on_red_column f.shape.layout (2 + k)) (Near f a.r k) = search rules in
     own ∙ ap (λ q. q.red) (placed f.shape.width f.shape.height (plane_of 0 f.shape.width f.samples.now) a.r (2 + k) a.top f.shape.layout c.has_red_row-row.ensures refl refl)))
     c.estimate_part-2.ensures.red_after
@@ -37,7 +37,7 @@ returns-clause-green_after c =
     let f = a.frame.now in
     let room = row_room f.shape.width f.shape.height a.r (omega arith) in
     three_parts a.green.now (a.r * f.shape.width) (λ j. (estimates a.top f a.r j).green) f.shape.width (omega arith) (omega (arith, room)) c.estimate_part.ensures.green_after
-    (laid_is (λ k. (estimates a.top f a.r (2 + k)).green) c.estimate_inside-2.ensures (λ k x b e.
+    (c.estimate_inside-2.ensures (λ k. (estimates a.top f a.r (2 + k)).green) (λ k x b e.
     let own : x ≡ green_at a.top (by_parity c.has_red_row-row.result (on_red_column f.shape.layout (2 + k))) (Near f a.r k) = search rules in
     own ∙ ap (λ q. q.green) (placed f.shape.width f.shape.height (plane_of 0 f.shape.width f.samples.now) a.r (2 + k) a.top f.shape.layout c.has_red_row-row.ensures refl refl)))
     c.estimate_part-2.ensures.green_after
@@ -49,7 +49,7 @@ returns-clause-blue_after c =
     let f = a.frame.now in
     let room = row_room f.shape.width f.shape.height a.r (omega arith) in
     three_parts a.blue.now (a.r * f.shape.width) (λ j. (estimates a.top f a.r j).blue) f.shape.width (omega arith) (omega (arith, room)) c.estimate_part.ensures.blue_after
-    (laid_is (λ k. (estimates a.top f a.r (2 + k)).blue) c.estimate_inside-3.ensures (λ k x b e.
+    (c.estimate_inside-3.ensures (λ k. (estimates a.top f a.r (2 + k)).blue) (λ k x b e.
     let own : x ≡ bilinear (not c.has_red_row-row.result) (not (on_red_column f.shape.layout (2 + k))) (Near f a.r k) = search rules in
     own ∙ ap (λ q. q.blue) (placed f.shape.width f.shape.height (plane_of 0 f.shape.width f.samples.now) a.r (2 + k) a.top f.shape.layout c.has_red_row-row.ensures refl refl)))
     c.estimate_part-2.ensures.blue_after
