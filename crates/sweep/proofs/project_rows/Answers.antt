@@ -1,7 +1,7 @@
 -- `sweep::project_rows` meets its contract: each step takes every stage one row further.
 use mathlib.Core.Path.{◌≡◌, sym, ◌∙◌, subst}
 use mathlib.Core.List.{List}
-use Prim.Native.Nat.{◌+◌, ◌*◌, ◌≤◌}
+use Prim.Native.Nat.{ℕ, ◌+◌, ◌*◌, ◌≤◌}
 use native.Mathlib.Omega.{arith}
 use lib.IntN.{ℤ}
 use lib.ListN.{length}
@@ -30,11 +30,11 @@ abbrev read : ℤ → ℤ
 read z = to_z w32 (of_z w32 z)
 
 -- the level, with its limit as the machine reads it
-abbrev level_read : Given → Level
-level_read g = record { spacing = 1; limit = read g.limit; source = 3; slots = 5; lag = 1 }
+abbrev level_read : Given → ℕ → Level
+level_read g n = record { spacing = 1; limit = read g.limit; source = 3; slots = n; lag = 1 }
 
-level_is : (g : Given) → Distance g.limit → level_read g ≡ level_of g
-level_is g limit = λ j. record { spacing = 1; limit = back (fits_abs w32 g.limit (omega (arith, limit.small))) j; source = 3; slots = 5; lag = 1 }
+level_is : (g : Given) (n : ℕ) → Distance g.limit → level_read g n ≡ level_of g n
+level_is g n limit = λ j. record { spacing = 1; limit = back (fits_abs w32 g.limit (omega (arith, limit.small))) j; source = 3; slots = n; lag = 1 }
 
 pub loop-t-init : goal.loop-t-init
 loop-t-init c =
@@ -79,11 +79,11 @@ parts_stage-requires c =
     let p = c.requires.0 in
     let w = p.sizes.width_to in
     let t = c.loop-t.t in
-    let e = sym (level_is g p.limit) in
+    let e = sym (level_is g _ p.limit) in
     let o = c.loop-t.kept.outside_room in
     let l = c.loop-t.kept.lines_room in
     let j = c.loop-t.kept.joined_room in
-    record { sizes = (p.sizes, step (goal.at.parts_stage-requires c).At-loop-t, subst Sound e (sound g (read a.least) (read a.most) a.own.now a.guide.now p t)); ring_rows = (λ i. subst (λ (x : Level). RingRows g x (ring d) (reached 1 g.height t)) e (rows_ready g (read a.least) (read a.most) a.own.now a.guide.now p t (ring_held d) (ring_room d) i)); width_in_bounds = (omega (arith, w, l.1), omega (arith, w, l.0), omega (arith, w, o.2), omega (arith, w, o.1), omega (arith, w, o.0)); width_in_bounds_2 = (omega (arith, w, j.0), omega (arith, w, j.1)) }
+    record { sizes = (p.sizes, step (goal.at.parts_stage-requires c).At-loop-t, subst Sound e (sound g (read a.least) (read a.most) a.own.now a.guide.now p t _ (omega arith) (omega arith))); ring_rows = (λ i. subst (λ (x : Level). RingRows g x (ring d) (reached 1 g.height t)) e (rows_ready g (read a.least) (read a.most) a.own.now a.guide.now p t (ring_held d) _ (omega arith) (omega arith) (ring_room d) i)); width_in_bounds = (omega (arith, w, l.1), omega (arith, w, l.0), omega (arith, w, o.2), omega (arith, w, o.1), omega (arith, w, o.0)); width_in_bounds_2 = (omega (arith, w, j.0), omega (arith, w, j.1)) }
 
 -- the rings of joined parts before theirs, and after it
 module _ (q : goal.After-parts_stage) (held : let a = q.args in Held a.given 3 0 q.difference_stage.new.ring (difference (own_plane a.given a.own.now) (guide_plane a.given a.guide.now)) (q.loop-t.t + 1)) where
@@ -100,7 +100,7 @@ module _ (q : goal.After-parts_stage) (held : let a = q.args in Held a.given 3 0
       let v = q.loop-t.invariant in
       let p = q.requires.0 in
       aparts_next g (read a.least) (read a.most) a.own.now a.guide.now p q.loop-t.t held q.loop-t.kept.apart room_before.0 v.aparts
-      (subst (λ (x : Level). q.parts_stage.new.apart ≡ ring_row_laid 5 1 g q.loop-t.t q.loop-t.kept.apart (ring_apart g x q.difference_stage.new.ring)) (level_is g p.limit) q.parts_stage.ensures.apart_after)
+      (subst (λ (x : Level). q.parts_stage.new.apart ≡ ring_row_laid 5 1 g q.loop-t.t q.loop-t.kept.apart (ring_apart g x q.difference_stage.new.ring)) (level_is g 5 p.limit) q.parts_stage.ensures.apart_after)
 
   together_held : let a = q.args in Held a.given 5 1 q.parts_stage.new.together (together_plane a.given.limit 1 a.given.width a.given.height (difference (own_plane a.given a.own.now) (guide_plane a.given a.guide.now))) (q.loop-t.t + 1)
   together_held =
@@ -109,7 +109,7 @@ module _ (q : goal.After-parts_stage) (held : let a = q.args in Held a.given 3 0
       let v = q.loop-t.invariant in
       let p = q.requires.0 in
       togethers_next g (read a.least) (read a.most) a.own.now a.guide.now p q.loop-t.t held q.loop-t.kept.together room_before.1 v.togethers
-      (subst (λ (x : Level). q.parts_stage.new.together ≡ ring_row_laid 5 1 g q.loop-t.t q.loop-t.kept.together (ring_together g x q.difference_stage.new.ring)) (level_is g p.limit) q.parts_stage.ensures.together_after)
+      (subst (λ (x : Level). q.parts_stage.new.together ≡ ring_row_laid 5 1 g q.loop-t.t q.loop-t.kept.together (ring_together g x q.difference_stage.new.ring)) (level_is g 5 p.limit) q.parts_stage.ensures.together_after)
 
 pub settled_stage-requires : goal.settled_stage-requires
 settled_stage-requires c =
