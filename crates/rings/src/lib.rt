@@ -12,17 +12,17 @@ ghost use Rattle.rings.specs.Planes.{reach};
 ghost use Rattle.rings.specs.Rows.{slot, slot_of, row_at, guide_at, five_slots, difference_row, Sound, ring_line, RingRows, ring_apart, ring_together};
 ghost use Rattle.rings.specs.Stages.{reached, Working, ring_row_laid, AsLong};
 
-// How many places the lines of a sweep have, with the places beside them, and its rings of three, five, seven and nine rows. More than they need: lines some
-// multiple of 4,096 bytes apart would hinder each other in the machine's loads and stores.
-pub const LINE: usize = 2168;
+// How many places the lines of a sweep have, with the places beside them, and its rings of three, five, seven and nine rows. 120 more than the widest frame's
+// rows: lines some multiple of 4,096 bytes apart would hinder each other in the machine's loads and stores.
+pub const LINE: usize = 2048 + 120;
 
-pub const THREE_ROWS: usize = 6264;
+pub const THREE_ROWS: usize = 3 * 2048 + 120;
 
-pub const FIVE_ROWS: usize = 10360;
+pub const FIVE_ROWS: usize = 5 * 2048 + 120;
 
-pub const SEVEN_ROWS: usize = 14456;
+pub const SEVEN_ROWS: usize = 7 * 2048 + 120;
 
-pub const NINE_ROWS: usize = 18552;
+pub const NINE_ROWS: usize = 9 * 2048 + 120;
 
 // What a projection is given, beside the two lists. That the sizes are in range stays in contracts: `given` in `working_plane/specs` makes one of any numbers,
 // and with that fact in it would have to prove it.
@@ -56,7 +56,7 @@ pub struct Level {
 }
 
 // Where a ring of n slots has the row that stands `back` rows before row r.
-pub fn slot_before(given: Given, n: usize, r: usize, back: usize) -> usize
+fn slot_before(given: Given, n: usize, r: usize, back: usize) -> usize
     requires { (1 ≤ n) × (n ≤ 9) × Sizes 1 given.width given.height }
     ensures { (result ≡ slot_of n given (pos r -ℤ pos back)) × (result + given.width ≤ n * given.width) }
 {
@@ -64,7 +64,7 @@ pub fn slot_before(given: Given, n: usize, r: usize, back: usize) -> usize
 }
 
 // And the row that stands `ahead` rows after it.
-pub fn slot_after(given: Given, n: usize, r: usize, ahead: usize) -> usize
+fn slot_after(given: Given, n: usize, r: usize, ahead: usize) -> usize
     requires { (1 ≤ n) × (n ≤ 9) × Sizes 1 given.width given.height × (r < given.height) × (ahead ≤ 4) }
     ensures { (result ≡ slot_of n given (pos r +ℤ pos ahead)) × (result + given.width ≤ n * given.width) }
 {
