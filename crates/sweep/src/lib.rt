@@ -46,12 +46,11 @@ fn settled_stage(
     least: i32,
     most: i32,
 )
-    requires sizes { Sizes 1 given.width given.height × (t ≤ 4096) × Ends least most }
+    requires sizes { Sizes 1 given.width given.height × Ends least most }
     requires run { Working 3 given.height t → Run reach own.old (row_at given (reached 3 given.height t)) given.width × Crossing 134217728 apart.now together.now (five_slots 5 1 given (reached 3 given.height t)) given.width }
     ensures { own.new ≡ row_laid 3 given t own.old (row_at given (reached 3 given.height t)) (settled_row given least most own.old apart.now together.now (reached 3 given.height t)) }
 {
-    let r = rings::done(t, 3, given.height);
-    if r < rings::done(t + 1, 3, given.height) {
+    if let Some(r) = rings::row_made(t, 3, given.height) {
         let starts = rings::five_slots(given, 5, 1, r);
         let n = given.width;
         let row = given.at + r * n;

@@ -23,7 +23,7 @@ use Rattle.rings.specs.Planes.{own_plane, guide_plane}
 use Rattle.sweep.specs.Sweep.{with_projected}
 use Rattle.sweep.proofs.Sweep.{level_of, settled_plane, start, sound, rows_ready, aparts_next, togethers_next, settled_ready, settled_next, all_projected}
 use Rattle.sweep.proofs.project_rows.Goals as goal
-use Rattle.sweep.proofs.project_rows.Goals.{After-difference_stage, After-parts_stage, At-loop-t}
+use Rattle.sweep.proofs.project_rows.Goals.{After-difference_stage, After-parts_stage}
 
 -- one of the clip's ends, or the limit, as the machine reads it
 abbrev read : ℤ → ℤ
@@ -43,15 +43,11 @@ loop-t-init c =
     start a.given (read a.least) (read a.most) a.own.now a.guide.now x.differences x.apart x.together
 
 -- ---- a step
--- it is not too far down
-step : (l : goal.At-loop-t) → l.loop-t.t ≤ 4096
-step l = omega (arith, l.requires.0.sizes.height_to)
-
 pub difference_stage-requires : goal.difference_stage-requires
 difference_stage-requires c =
     let a = c.args in
     let p = c.requires.0 in
-    record { sizes = (p.sizes, step (goal.at.difference_stage-requires c).At-loop-t, omega (arith, p.sizes.width_to, c.loop-t.kept.differences_room)); run = difference_ready a.given a.own.now (settled_plane a.given (read a.least) (read a.most) a.own.now a.guide.now) a.guide.now p 3 c.loop-t.t c.loop-t.invariant.plane }
+    record { sizes = (p.sizes, omega (arith, p.sizes.width_to, c.loop-t.kept.differences_room)); run = difference_ready a.given a.own.now (settled_plane a.given (read a.least) (read a.most) a.own.now a.guide.now) a.guide.now p 3 c.loop-t.t c.loop-t.invariant.plane }
 
 -- the ring of differences after its stage
 module _ (d : goal.After-difference_stage) where
@@ -83,7 +79,7 @@ parts_stage-requires c =
     let o = c.loop-t.kept.outside_room in
     let l = c.loop-t.kept.lines_room in
     let j = c.loop-t.kept.joined_room in
-    record { sizes = (p.sizes, step (goal.at.parts_stage-requires c).At-loop-t, subst Sound e (sound g (read a.least) (read a.most) a.own.now a.guide.now p t _ (omega arith) (omega arith))); ring_rows = (λ i. subst (λ (x : Level). RingRows g x (ring d) (reached 1 g.height t)) e (rows_ready g (read a.least) (read a.most) a.own.now a.guide.now p t (ring_held d) _ (omega arith) (omega arith) (ring_room d) i)); width_in_bounds = (omega (arith, w, l.1), omega (arith, w, l.0), omega (arith, w, o.2), omega (arith, w, o.1), omega (arith, w, o.0)); width_in_bounds_2 = (omega (arith, w, j.0), omega (arith, w, j.1)) }
+    record { sizes = (p.sizes, subst Sound e (sound g (read a.least) (read a.most) a.own.now a.guide.now p t _ (omega arith) (omega arith))); ring_rows = (λ i. subst (λ (x : Level). RingRows g x (ring d) (reached 1 g.height t)) e (rows_ready g (read a.least) (read a.most) a.own.now a.guide.now p t (ring_held d) _ (omega arith) (omega arith) (ring_room d) i)); width_in_bounds = (omega (arith, w, l.1), omega (arith, w, l.0), omega (arith, w, o.2), omega (arith, w, o.1), omega (arith, w, o.0)); width_in_bounds_2 = (omega (arith, w, j.0), omega (arith, w, j.1)) }
 
 -- the rings of joined parts before theirs, and after it
 module _ (q : goal.After-parts_stage) (held : let a = q.args in Held a.given 3 0 q.difference_stage.new.ring (difference (own_plane a.given a.own.now) (guide_plane a.given a.guide.now)) (q.loop-t.t + 1)) where
@@ -118,7 +114,7 @@ settled_stage-requires c =
     let a = c.args in
     let p = c.requires.0 in
     let r = room q held in
-    record { sizes = (p.sizes, step (goal.at.settled_stage-requires c).At-loop-t, ends_read c.requires.1); run = settled_ready a.given (read a.least) (read a.most) a.own.now a.guide.now p c.loop-t.t c.loop-t.invariant.plane (apart_held q held) (together_held q held) r.0 r.1 }
+    record { sizes = (p.sizes, ends_read c.requires.1); run = settled_ready a.given (read a.least) (read a.most) a.own.now a.guide.now p c.loop-t.t c.loop-t.invariant.plane (apart_held q held) (together_held q held) r.0 r.1 }
 
 pub loop-t-preserved : goal.loop-t-preserved
 loop-t-preserved c =
