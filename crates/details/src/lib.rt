@@ -6,7 +6,7 @@
 ghost use Rattle.std.specs.Prelude.{◌≡◌, ◌+◌, ◌*◌, ◌≤◌, ◌<◌, nat_abs, pos, ◌+ℤ◌, ◌-ℤ◌, length};
 ghost use Rattle.integers.specs.Lists.{overwrite};
 ghost use Rattle.planes.specs.Lists.{InRow, value};
-ghost use Rattle.filters.specs.Bank.{Distance, Ends, low_split, high_split, high_join, along};
+ghost use Rattle.filters.specs.Bank.{Distance, low_split, high_split, high_join, along};
 ghost use Rattle.lines.specs.Lines.{Run, spaced, padded};
 ghost use Rattle.projection.specs.Fast.{excess as outside, outer_part, crossed_along};
 ghost use Rattle.details.specs.Details.{difference_line, Triple, outer, outer_minus, outer_plus, from_place, crossed, Crossing, joined_apart, joined_together, settled};
@@ -183,14 +183,13 @@ pub fn settle_line(
     together: &[i32],
     starts: lines::Five,
     n: usize,
-    least: i32,
-    most: i32,
+    range: filters::Range,
 )
-    requires { Run 131070 own.old at n × Crossing 134217728 apart.now together.now starts n × Ends least most }
-    ensures { own.new ≡ overwrite own.old at n (λ k. settled least most (value own.old (at + k)) (crossed apart.now together.now starts k)) }
+    requires { Run 131070 own.old at n × Crossing 134217728 apart.now together.now starts n }
+    ensures { own.new ≡ overwrite own.old at n (λ k. settled range.least range.most (value own.old (at + k)) (crossed apart.now together.now starts k)) }
 {
     for k in 0..n {
         let sum = crossed_at(apart, together, starts, n, k);
-        own[at + k] = filters::rescale_less(own[at + k], sum, least, most);
+        own[at + k] = filters::rescale_less(own[at + k], sum, range);
     }
 }

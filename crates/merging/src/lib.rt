@@ -106,7 +106,8 @@ pub fn merge_along(
     lines::join_low(rest, lines::Five::spaced(1), n, out, at);
 }
 
-// A line of n, from `at` on, settled from five rows of the merged parts and one of the rests. Lent lists go one by one (docs/DECISIONS.md, "Lent lists").
+// A line of n, from `at` on, settled from five rows of the merged parts and one of the rests. The ends go one by one, as in
+// `nested_floor::settle`. Lent lists go one by one (docs/DECISIONS.md, "Lent lists").
 pub fn settle_line(
     own: &mut [i32],
     at: usize,

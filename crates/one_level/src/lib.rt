@@ -16,7 +16,7 @@ impl Level for One {
         let least = working_plane::least_kept(top);
         let most = working_plane::most_kept(top);
         for n in 0..rounds {
-            sweep::project(work, green, given, least, most);
+            sweep::project(work, green, given, filters::Range { least, most });
             working_plane::put_observed(colour, mosaic, work);
         }
     }

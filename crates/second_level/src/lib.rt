@@ -65,7 +65,8 @@ pub fn merged_stage(
     }
 }
 
-// A row of the plane, from five rows of the merged parts and of the rests. The line is scratch. Lent lists go one by one (docs/DECISIONS.md, "Lent lists").
+// A row of the plane, from five rows of the merged parts and of the rests. The line is scratch. The ends go one by one, as in
+// `nested_floor::settle`. Lent lists go one by one (docs/DECISIONS.md, "Lent lists").
 pub fn settled_stage(
     own: &mut [i32],
     given: rings::Given,

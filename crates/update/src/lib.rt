@@ -89,7 +89,7 @@ fn update_places(
     };
     let most = i32::from(top);
     gather(green, from, down, columns, rows, work);
-    sweep::project(work, mosaic, given, 0, most);
+    sweep::project(work, mosaic, given, filters::Range { least: 0, most });
     scatter(work, columns, rows, green, from, down);
 }
 

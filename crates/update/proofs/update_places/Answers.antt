@@ -1,14 +1,13 @@
 -- `update::update_places` meets its contract: green at the places is gathered, projected on the colour, and put back.
-use mathlib.Core.Path.{◌≡◌, ◌∙◌, subst, sym}
+use mathlib.Core.Path.{◌≡◌, ◌∙◌}
 use mathlib.Core.List.{List}
 use Prim.Native.Nat.{ℕ, ◌+◌, ◌*◌, ◌≤◌}
 use native.Mathlib.Omega.{arith}
-use lib.IntN.{ℤ, pos, nat_abs}
+use lib.IntN.{pos}
 use mir.Syntax.{w32}
-use Rattle.integers.proofs.Bounds.{bounds, read_is}
+use Rattle.integers.proofs.Bounds.{read_is}
 use Rattle.planes.specs.Places.{half}
 use Rattle.planes.proofs.Places.{few_places, small_rows}
-use Rattle.filters.proofs.Quotients.{ends}
 use Rattle.sweep.specs.Sweep.{with_projected}
 use Rattle.work_buffer.specs.Buffer.{Workable}
 use Rattle.update.specs.Places.{with_mixed}
@@ -27,18 +26,11 @@ gather-requires c =
     let u = c.requires.0 in
     (small_rows a.width a.height a.a a.b c.requires.1 c.requires.2 a.green.now u.greens u.sizes.width_from _ _ (omega arith) (omega arith), room a.a a.b u)
 
--- the ceiling, as the machine reads it
-small : {top : ℕ} {most : ℤ} → most ≡ pos top → top ≤ 65535 → nat_abs most ≤ 65535
-small e few = subst (λ (z : ℤ). nat_abs z ≤ 65535) (sym e) few
-
 pub project-requires : goal.project-requires
 unfolding half
 project-requires c =
     let a = c.args in
-    let top = small (read_is w32 c.from-most.type_inv c.from-most.ensures) (omega arith) in (
-      projectable a.width a.height a.a a.b c.requires.1 c.requires.2 a.mosaic.now a.green.now a.work.now (room a.a a.b c.requires.0) c.gather.ensures c.requires.0 (λ i. omega (arith, c.type_inv.mosaic i)) (λ i. omega (arith, c.slice_known-1.given i)) _ _ _ _ (omega arith) (omega arith) (omega arith) (record { sign = tt; small = omega arith }),
-      ends (search bounds depth 4) (search bounds depth 4) tt tt,
-    )
+    projectable a.width a.height a.a a.b c.requires.1 c.requires.2 a.mosaic.now a.green.now a.work.now (room a.a a.b c.requires.0) c.gather.ensures c.requires.0 (λ i. omega (arith, c.type_inv.mosaic i)) (λ i. omega (arith, c.slice_known-1.given i)) _ _ _ _ (omega arith) (omega arith) (omega arith) (record { sign = tt; small = omega arith })
 
 -- what the projection leaves
 mixed : (p : goal.After-project) → let a = p.args in p.project.new.own ≡ with_mixed a.top a.width a.height a.a a.b a.mosaic.now a.green.now a.work.now

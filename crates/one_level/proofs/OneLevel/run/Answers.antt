@@ -55,10 +55,13 @@ pub project-requires : goal.project-requires
 project-requires c =
     let l = (goal.at.project-requires c).At-loop-n in
     let a = c.args in
-    let e = ends_small l in (
-      colour_projectable a.colour a.mosaic.now a.green.now c.loop-n.work c.given_of-given.ensures (omega (arith, c.well_formed.0)) (workable l) (plane-kept l) (λ k. omega (arith, c.type_inv.green k)),
-      ends (search bounds depth 4) (search bounds depth 4) tt tt,
-    )
+    colour_projectable a.colour a.mosaic.now a.green.now c.loop-n.work c.given_of-given.ensures (omega (arith, c.well_formed.0)) (workable l) (plane-kept l) (λ k. omega (arith, c.type_inv.green k))
+
+-- they are near to 0
+pub invariant_of-project : goal.invariant_of-project
+invariant_of-project c =
+    let e = ends_small (goal.at.invariant_of-project c).At-loop-n in
+    record { near = ends (search bounds depth 4) (search bounds depth 4) tt tt }
 
 pub loop-n-preserved : goal.loop-n-preserved
 loop-n-preserved c =
