@@ -129,13 +129,9 @@ fn update_colours(top: u16, shape: Shape, mosaic: &[u16], green: &mut [u16], wor
     ensures green_after { green.new ≡ update_list top (framed shape mosaic.now) green.old }
     ensures work_after { work.new ≡ zeroed shape.width shape.height work.old }
 {
-    let Shape {
-        width,
-        height,
-        layout,
-    } = shape;
-    let red_row = usize::from(layout / 2 % 2);
-    let red_column = usize::from(layout % 2);
+    let Shape { width, height, .. } = shape;
+    let red_row = usize::from(shape.red_row());
+    let red_column = usize::from(shape.red_column());
     let blue_row = 1 - red_row;
     let blue_column = 1 - red_column;
     update_places(
@@ -161,7 +157,7 @@ pub fn update(
 ) -> Result<(), Refusal>
     ensures { Outcome (update_call ceiling (framed shape mosaic.now) green.old work.old) result (green.new, work.new) }
 {
-    let top = 4095;
+    let top = questions::CEILING;
     ask_update(top, shape, mosaic, green, work.len())?;
     update_colours(top, shape, mosaic, green, work);
     Ok(())
