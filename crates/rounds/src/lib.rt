@@ -15,7 +15,7 @@ ghost use Rattle.rounds.specs.Calls.{planes_questions, rounds_questions, rounds_
 ghost use Rattle.rounds.specs.Colours.{red_of, blue_of};
 
 use one_level::One;
-use questions::{Refusal, Lengths, Settings, Shape};
+use questions::{Lengths, Refusal, Settings, Shape};
 use two_levels::Two;
 use working_plane::Colour;
 
@@ -85,7 +85,7 @@ fn rewrite_colours(
         column: usize::from(shape.red_column()),
         threshold: settings.threshold,
     };
-    // from here on the level is a type
+    // from here on the depth is a type
     if shape.two_levels() {
         working_plane::rewrite_both::<Two>(reds, top, rounds, mosaic, red, green, blue, work);
     } else {

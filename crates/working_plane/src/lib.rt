@@ -125,8 +125,8 @@ pub fn put_observed(colour: Colour, mosaic: &[u16], work: &mut [i32])
     observe(mosaic, first, 2 * width, columns, rows, work);
 }
 
-// One level of the bank, or two: how the rounds of one colour's working plane are run.
-pub trait Level {
+// How deep the bank goes, one level or two: how the rounds of one colour's working plane are run.
+pub trait Depth {
     ghost two: { Bool };
 
     // So many rounds: the projection on green, and then the observed samples.
@@ -137,7 +137,7 @@ pub trait Level {
 
 // A colour's plane: loaded, worked on through all rounds, and unloaded once, clipped. It is called twice, so the compiler leaves it by itself: what `run` has on
 // its stack is on the stack of this function, and not on its callers'.
-fn rewrite<L: Level>(
+fn rewrite<D: Depth>(
     colour: Colour,
     top: u16,
     rounds: u8,
@@ -147,17 +147,17 @@ fn rewrite<L: Level>(
     work: &mut [i32],
 )
     requires { Workable colour.width colour.height mosaic.now green.now (length work.old) × (colour.row < 2) × (colour.column < 2) × (length plane.old ≡ colour.width * colour.height) }
-    ensures plane_after { plane.new ≡ rewritten_list L.two colour top rounds mosaic.now green.now plane.old }
+    ensures plane_after { plane.new ≡ rewritten_list D.two colour top rounds mosaic.now green.now plane.old }
     ensures work_unchanged { zeroed colour.width colour.height work.new ≡ zeroed colour.width colour.height work.old }
 {
     load(plane, work);
-    L::run(colour, top, rounds, mosaic, green, work);
+    D::run(colour, top, rounds, mosaic, green, work);
     unload(work, top, plane);
 }
 
 // Red, and then blue. The work buffer's first 8 · width · height numbers are scratch.
 // Lent lists go one by one (docs/DECISIONS.md, "Lent lists").
-pub fn rewrite_both<L: Level>(
+pub fn rewrite_both<D: Depth>(
     reds: Colour,
     top: u16,
     rounds: u8,
@@ -169,11 +169,11 @@ pub fn rewrite_both<L: Level>(
 )
     requires workable { Workable reds.width reds.height mosaic.now green.now (length work.old) × (reds.row < 2) × (reds.column < 2) }
     requires red_len { (length red.old ≡ reds.width * reds.height) × (length blue.old ≡ reds.width * reds.height) }
-    ensures red_after { red.new ≡ rewritten_list L.two reds top rounds mosaic.now green.now red.old }
-    ensures blue_after { blue.new ≡ rewritten_list L.two (other reds) top rounds mosaic.now green.now blue.old }
+    ensures red_after { red.new ≡ rewritten_list D.two reds top rounds mosaic.now green.now red.old }
+    ensures blue_after { blue.new ≡ rewritten_list D.two (other reds) top rounds mosaic.now green.now blue.old }
     ensures work_unchanged { zeroed reds.width reds.height work.new ≡ zeroed reds.width reds.height work.old }
 {
     let blues = other(reds);
-    rewrite::<L>(reds, top, rounds, mosaic, green, red, work);
-    rewrite::<L>(blues, top, rounds, mosaic, green, blue, work);
+    rewrite::<D>(reds, top, rounds, mosaic, green, red, work);
+    rewrite::<D>(blues, top, rounds, mosaic, green, blue, work);
 }
