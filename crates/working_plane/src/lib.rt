@@ -12,6 +12,8 @@ ghost use Rattle.work_buffer.specs.Buffer.{with_plane, zeroed, Workable};
 ghost use Rattle.working_plane.specs.Rounds.{least_kept, most_kept, working_plane};
 ghost use Rattle.working_plane.specs.Colours.{round_of, given, other, rewritten_list, KeptPlane};
 
+use work_buffer::Places;
+
 // A colour's places, by the frame's sizes and the parities of the colour's rows and columns; and the threshold. The ceiling goes beside it, a
 // number that the compiler then clips with. That the parities are below 2 stays in contracts: `other`, `red_of` and `blue_of` in specs/ make a colour of any
 // numbers, and with that fact in it would have to prove it.
@@ -102,27 +104,24 @@ fn observe_row(mosaic: &[u16], from: usize, n: usize, work: &mut [i32])
     }
 }
 
-// The observed samples of a colour into its working plane. Its rows stand `down` apart.
-fn observe(mosaic: &[u16], from: usize, down: usize, columns: usize, rows: usize, work: &mut [i32])
-    requires { InPlane mosaic.now from columns rows down 2 × (length mosaic.now ≤ length work.old) }
-    ensures { work.new ≡ put work.old (columns * rows) (place from down columns) (λ k. sample mosaic.now (place from down columns k)) }
+// The observed samples at these places, into the same ones of the working plane.
+fn observe(mosaic: &[u16], places: Places, work: &mut [i32])
+    requires { InPlane mosaic.now places.from places.columns places.rows places.down 2 × (length mosaic.now ≤ length work.old) }
+    ensures { work.new ≡ put work.old (places.columns * places.rows) (place places.from places.down places.columns) (λ k. sample mosaic.now (place places.from places.down places.columns k)) }
 {
-    for i in 0..rows {
-        observe_row(mosaic, from + i * down, columns, work);
+    for i in 0..places.rows {
+        observe_row(mosaic, places.from + i * places.down, places.columns, work);
     }
 }
 
-// The same, by the colour's places.
+// The observed samples of a colour into its working plane.
 pub fn put_observed(colour: Colour, mosaic: &[u16], work: &mut [i32])
     requires sizes { Sizes 2 colour.width colour.height × (colour.row < 2) × (colour.column < 2) }
     requires mosaic_len { (length mosaic.now ≡ colour.width * colour.height) × (colour.width * colour.height ≤ length work.old) }
     ensures { work.new ≡ with_plane colour.width colour.height (put_at_places colour.row colour.column (λ r c. pos (plane_of 0 colour.width mosaic.now r c)) (plane_of (pos 0) colour.width work.old)) work.old }
 {
-    let width = colour.width;
-    let first = colour.row * width + colour.column;
-    let columns = (width + 1 - colour.column) / 2;
-    let rows = (colour.height + 1 - colour.row) / 2;
-    observe(mosaic, first, 2 * width, columns, rows, work);
+    let places = Places::of(colour.width, colour.height, colour.row, colour.column);
+    observe(mosaic, places, work);
 }
 
 // How deep the bank goes, one level or two: how the rounds of one colour's working plane are run.
