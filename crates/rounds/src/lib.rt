@@ -100,10 +100,9 @@ fn clear(shape: Shape, work: &mut [i32], wide_work: &mut [i64])
 {
     let needed = 8 * (shape.width * shape.height);
     work[..needed].fill(0);
-    if !shape.two_levels() {
-        return;
+    if shape.two_levels() {
+        wide_work[..needed].fill(0);
     }
-    wide_work[..needed].fill(0);
 }
 
 // Runs the rounds on three given planes: red and blue are rewritten in place. The work buffer's first 8 · width · height numbers are zero
