@@ -3,12 +3,12 @@
 
 ghost use Rattle.std.specs.Prelude.{false};
 
-use working_plane::{Colour, Level};
+use working_plane::{Colour, Depth};
 
 // One level of the bank.
 pub struct One;
 
-impl Level for One {
+impl Depth for One {
     ghost two = { false };
 
     fn run(colour: Colour, top: u16, rounds: u8, mosaic: &[u16], green: &[u16], work: &mut [i32]) {

@@ -1,4 +1,4 @@
--- `OneLevel::run` meets its contract: after n turns, the work buffer holds the working plane after n rounds.
+-- `OneDepth::run` meets its contract: after n turns, the work buffer holds the working plane after n rounds.
 use mathlib.Core.Path.{◌≡◌, sym, subst}
 use mathlib.Core.Bool.{false}
 use Prim.Native.Nat.{ℕ, ◌*◌, ◌≤◌}
@@ -15,8 +15,8 @@ use Rattle.working_plane.specs.Rounds.{least_kept, most_kept, working_plane}
 use Rattle.working_plane.specs.Colours.{round_of, KeptPlane}
 use Rattle.working_plane.proofs.Working.{colour_projectable, none_laid, more_laid, after_kept}
 use Rattle.one_level.proofs.Projected.{one_laid}
-use Rattle.one_level.proofs.OneLevel.run.Goals as goal
-use Rattle.one_level.proofs.OneLevel.run.Goals.{At-loop-n, Start}
+use Rattle.one_level.proofs.OneDepth.run.Goals as goal
+use Rattle.one_level.proofs.OneDepth.run.Goals.{At-loop-n, Start}
 
 -- the working plane after n rounds
 abbrev After : goal.Start → ℕ → ℕ → ℕ → ℤ
