@@ -6,7 +6,7 @@
 ghost use Rattle.std.specs.Prelude.{◌≡◌, ◌+◌, ◌*◌, ◌≤◌, ◌<◌, nat_abs, pos, ◌+ℤ◌, ◌-ℤ◌, length};
 ghost use Rattle.integers.specs.Lists.{overwrite};
 ghost use Rattle.planes.specs.Lists.{InRow, value};
-ghost use Rattle.filters.specs.Bank.{Distance, Ends, low_split, high_split, high_join, along};
+ghost use Rattle.filters.specs.Bank.{Distance, low_split, high_split, high_join, along};
 ghost use Rattle.lines.specs.Lines.{Run, spaced, padded};
 ghost use Rattle.projection.specs.Fast.{excess as outside, outer_part, crossed_along};
 ghost use Rattle.details.specs.Details.{difference_line, Triple, outer, outer_minus, outer_plus, from_place, crossed, Crossing, joined_apart, joined_together, settled};
@@ -48,7 +48,7 @@ fn excess(limit: i32, z: i32) -> i32
 }
 
 // Along a padded line of n that is low along the columns, what of band 2 lies outside the limit.
-pub fn outer_line(line: &[i32], limit: i32, d: usize, n: usize, out: &mut [i32], at: usize)
+fn outer_line(line: &[i32], limit: i32, d: usize, n: usize, out: &mut [i32], at: usize)
     requires { Distance limit × Triple 134217728 line.now d n × (at + n ≤ length out.old) }
     ensures { out.new ≡ overwrite out.old at n (outer high_split limit d line.now) }
 {
@@ -59,7 +59,7 @@ pub fn outer_line(line: &[i32], limit: i32, d: usize, n: usize, out: &mut [i32],
 }
 
 // Along a padded line of n that is high along the columns, what of bands 3 and 4 lies outside: their difference and their sum.
-pub fn outer_lines(
+fn outer_lines(
     line: &[i32],
     limit: i32,
     d: usize,
@@ -125,7 +125,7 @@ pub fn crossed_at(x: &[i32], y: &[i32], starts: lines::Five, n: usize, k: usize)
 }
 
 // The joined parts of a row, along three padded lines of parts: their difference and their sum, from `at` on. Lent lists go one by one (docs/DECISIONS.md, "Lent lists").
-pub fn join_parts(
+fn join_parts(
     parts: &[i32],
     minus: &[i32],
     plus: &[i32],
@@ -140,14 +140,8 @@ pub fn join_parts(
     ensures apart_after { apart.new ≡ overwrite apart.old at n (joined_apart d parts.now minus.now plus.now) }
     ensures together_after { together.new ≡ overwrite together.old at n (joined_together d parts.now minus.now plus.now) }
 {
+    let starts = lines::Five::spaced(d);
     for k in 0..n {
-        let starts = lines::Five {
-            a: 0,
-            b: d,
-            c: 2 * d,
-            d: 3 * d,
-            e: 4 * d,
-        };
         let p = crossed_at(parts, parts, starts, n, k);
         let q = crossed_at(minus, plus, starts, n, k);
         apart[at + k] = q - p;
@@ -189,14 +183,13 @@ pub fn settle_line(
     together: &[i32],
     starts: lines::Five,
     n: usize,
-    least: i32,
-    most: i32,
+    range: filters::Range,
 )
-    requires { Run 131070 own.old at n × Crossing 134217728 apart.now together.now starts n × Ends least most }
-    ensures { own.new ≡ overwrite own.old at n (λ k. settled least most (value own.old (at + k)) (crossed apart.now together.now starts k)) }
+    requires { Run 131070 own.old at n × Crossing 134217728 apart.now together.now starts n }
+    ensures { own.new ≡ overwrite own.old at n (λ k. settled range.least range.most (value own.old (at + k)) (crossed apart.now together.now starts k)) }
 {
     for k in 0..n {
         let sum = crossed_at(apart, together, starts, n, k);
-        own[at + k] = filters::rescale_less(own[at + k], sum, least, most);
+        own[at + k] = filters::rescale_less(own[at + k], sum, range);
     }
 }

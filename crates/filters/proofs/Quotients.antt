@@ -5,10 +5,8 @@ use Prim.Native.Nat.{ℕ}
 use native.Mathlib.Nat.{le_trans}
 use lib.Dec.{T, leb, leb→le, lit<}
 use lib.IntN.{ℤ, pos, neg_ℤ, ◌+ℤ◌, ◌-ℤ◌, ◌*ℤ◌}
-use mir.Syntax.{w32}
-use mir.Val.{to_z, of_z}
 use Rattle.integers.specs.Numbers.{whole_divided, rounded, clamp}
-use Rattle.integers.proofs.Bounds.{Bound, abs_read}
+use Rattle.integers.proofs.Bounds.{Bound}
 use Rattle.integers.proofs.Clamping.{clamp_moved}
 use Rattle.integers.proofs.Linear.{linear, x₀, x₁, x₂, number, ◌⊕◌, ◌⊖◌, ◌⊛◌}
 use Rattle.integers.proofs.Shifts.{whole_divided_more}
@@ -22,10 +20,6 @@ rounded_examples top = (refl, refl, refl, refl)
 -- ends of a clip that are known to be small enough: `ends (search bounds depth 4) (search bounds depth 4) tt tt`
 pub ends : {least most : ℤ} (a : Bound least) (b : Bound most) → T (leb a.most 131070) → T (leb b.most 131070) → Ends least most
 ends a b s t = record { from = le_trans a.holds (leb→le a.most 131070 s); to = le_trans b.holds (leb→le b.most 131070 t) }
-
--- and as the machine reads them
-pub ends_read : {least most : ℤ} → Ends least most → Ends (to_z w32 (of_z w32 least)) (to_z w32 (of_z w32 most))
-ends_read {least} {most} e = record { from = le_trans (abs_read w32 least) e.from; to = le_trans (abs_read w32 most) e.to }
 
 -- 1,024 times x less a sum: the quotient less `least`, clipped from 0 on, and `least` more
 pub rescaled_from_least : (least most x sum : ℤ)

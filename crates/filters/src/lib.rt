@@ -6,6 +6,14 @@ ghost use Rattle.std.specs.Prelude.{◌≡◌, ◌≤◌, pos, nat_abs, ◌-ℤ�
 ghost use Rattle.integers.specs.Numbers.{clamp};
 ghost use Rattle.filters.specs.Bank.{Small, Ends, low_split, high_split, low_join, high_join, weighted, rescaled};
 
+// The two ends of a clip, as near to 0 as those of a working plane of 16-bit samples.
+#[derive(Clone, Copy)]
+pub struct Range {
+    pub least: i32,
+    pub most: i32,
+    pub ghost near: { Ends least most },
+}
+
 // 1 2 1
 pub fn low_split(a: i32, b: i32, c: i32) -> i32
     requires { Small a × Small b × Small c }
@@ -51,12 +59,13 @@ pub fn clipped(z: i32, least: i32, most: i32) -> i32
     z
 }
 
-// 1,024 times x, less a sum, brought back to least..most: (that + 512) whole-divided by 1,024, by a signed shift, and clipped. x is added after the
+// 1,024 times x, less a sum, brought back to the range: (that + 512) whole-divided by 1,024, by a signed shift, and clipped. x is added after the
 // shift, and `least` taken off before it, so that the clip starts at 0, which vectors of 128 bits do in half the instructions.
-pub fn rescale_less(x: i32, sum: i32, least: i32, most: i32) -> i32
-    requires { (nat_abs x ≤ 131070) × (nat_abs sum ≤ 1610612736) × Ends least most }
-    ensures { result ≡ rescaled 1024 least most (pos 1024 *ℤ x -ℤ sum) }
+pub fn rescale_less(x: i32, sum: i32, range: Range) -> i32
+    requires { (nat_abs x ≤ 131070) × (nat_abs sum ≤ 1610612736) }
+    ensures { result ≡ rescaled 1024 range.least range.most (pos 1024 *ℤ x -ℤ sum) }
 {
+    let Range { least, most } = range;
     let above = x + ((512 - 1024 * least - sum) >> 10);
     clipped(above, 0, most - least) + least
 }

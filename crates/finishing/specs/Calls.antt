@@ -1,6 +1,6 @@
 -- The finishing call: what it asks, and what its answer, its planes and its work buffers are then; and the same call with a tally. Assumes
 -- nothing.
-use Rattle.std.specs.Prelude.{◌≡◌, List, ℕ}
+use Rattle.std.specs.Prelude.{◌≡◌, List}
 use Rattle.planes.specs.Layout.{two_levels}
 use Rattle.planes.specs.Planes.{Frame}
 use Rattle.questions.specs.Settings.{rounds_of}

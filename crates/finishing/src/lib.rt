@@ -8,14 +8,14 @@ ghost use Rattle.questions.specs.Lent.{lent, rooms_of};
 ghost use Rattle.questions.specs.Calls.{Outcome};
 ghost use Rattle.finishing.specs.Calls.{finish_questions, with_finished, finish_call, finish_given, FinishResult};
 
-use questions::{Refusal, Lengths, Settings, Shape};
+use questions::{Lengths, Refusal, Settings, Shape};
 use tally::Tally;
 
 // Estimate, update, rounds, by their calls, which then accept.
 // Lent lists go one by one (docs/DECISIONS.md, "Lent lists").
 fn fill_planes(
     shape: Shape,
-    given: Settings,
+    settings: Settings,
     mosaic: &[u16],
     red: &mut [u16],
     green: &mut [u16],
@@ -23,12 +23,12 @@ fn fill_planes(
     work: &mut [i32],
     wide_work: &mut [i64],
 )
-    requires { 0 ≡ ask (finish_questions (framed shape mosaic.now) given (rooms_of (lent red.old green.old blue.old work.old wide_work.old))) }
-    ensures { lent red.new green.new blue.new work.new wide_work.new ≡ with_finished (framed shape mosaic.now) given (lent red.old green.old blue.old work.old wide_work.old) }
+    requires { 0 ≡ ask (finish_questions (framed shape mosaic.now) settings (rooms_of (lent red.old green.old blue.old work.old wide_work.old))) }
+    ensures { lent red.new green.new blue.new work.new wide_work.new ≡ with_finished (framed shape mosaic.now) settings (lent red.old green.old blue.old work.old wide_work.old) }
 {
     estimate::estimate(shape, mosaic, red, green, blue).unwrap();
     update::update(shape, mosaic, green, work).unwrap();
-    rounds::rounds(shape, given, mosaic, red, green, blue, work, wide_work).unwrap();
+    rounds::rounds(shape, settings, mosaic, red, green, blue, work, wide_work).unwrap();
 }
 
 // The finishing call without its tally: questions 1 to 9, with 18 after 8; estimate, update and rounds into three lent planes. The work buffer's

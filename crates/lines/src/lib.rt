@@ -6,7 +6,7 @@ ghost use Rattle.std.specs.Prelude.{◌≡◌, ℕ, ◌+◌, ◌≤◌, ◌<◌,
 ghost use Rattle.integers.specs.Lists.{overwrite};
 ghost use Rattle.planes.specs.Lists.{value};
 ghost use Rattle.filters.specs.Bank.{low_split, high_split, low_join, high_join, along};
-ghost use Rattle.lines.specs.Lines.{Run, Runs, three, five, joined, meant, padded};
+ghost use Rattle.lines.specs.Lines.{Run, Runs, spaced, three, five, joined, meant, padded};
 
 // Three lines of n, from a, b and c on, through both split filters: into `low` and `high`, from `at` on.
 // Lent lists go one by one (docs/DECISIONS.md, "Lent lists").
@@ -34,7 +34,7 @@ pub fn split_line(
     }
 }
 
-// Where five lines begin. Where they stand d apart, all five are written out: the proofs compute with them.
+// Where five lines begin.
 #[derive(Clone, Copy)]
 pub struct Five {
     pub a: usize,
@@ -42,6 +42,22 @@ pub struct Five {
     pub c: usize,
     pub d: usize,
     pub e: usize,
+}
+
+impl Five {
+    // Five places, each so many after the one before it.
+    pub fn spaced(spacing: usize) -> Five
+        requires { spacing ≤ 2 }
+        ensures { result ≡ spaced spacing }
+    {
+        Five {
+            a: 0,
+            b: spacing,
+            c: 2 * spacing,
+            d: 3 * spacing,
+            e: 4 * spacing,
+        }
+    }
 }
 
 // Five lines of n through the low join filter: into `out`, from `at` on.
@@ -133,12 +149,5 @@ pub fn join_along(low: &mut [i32], high: &mut [i32], n: usize, out: &mut [i32], 
 {
     pad_line(low, n, 2);
     pad_line(high, n, 2);
-    let starts = Five {
-        a: 0,
-        b: 1,
-        c: 2,
-        d: 3,
-        e: 4,
-    };
-    join_lines(low, high, starts, n, out, at);
+    join_lines(low, high, Five::spaced(1), n, out, at);
 }

@@ -69,5 +69,5 @@ module _ {n : ℕ} (some : 1 ≤ n) (l : List ℤ) {line : List ℤ} (fit : 2 + 
   unfolding low_added
   added_laid part from out at q = q ∙ overwrite_cong out at n _ _ (λ k i. ap (λ z. value part (from + k) +ℤ z) (low_along k i))
 
-  pub low_laid : (out : List ℤ) (at : ℕ) {last : List ℤ} → last ≡ overwrite out at n (five low_join line (spaced 1)) → last ≡ overwrite out at n (along low_join 1 n (from_place 2 l))
-  low_laid out at q = q ∙ overwrite_cong out at n _ _ low_along
+  pub low_laid : {starts : Five} → starts ≡ spaced 1 → (out : List ℤ) (at : ℕ) {last : List ℤ} → last ≡ overwrite out at n (five low_join line starts) → last ≡ overwrite out at n (along low_join 1 n (from_place 2 l))
+  low_laid is out at q = q ∙ (λ m. overwrite out at n (five low_join line (is m))) ∙ overwrite_cong out at n _ _ low_along

@@ -103,17 +103,11 @@ pub fn merge_along(
     lines::pad_line(whole, n, 2);
     lines::pad_line(rest, n, 2);
     add_low(whole, apart1, together1, from, n, apart, together, at);
-    let starts = lines::Five {
-        a: 0,
-        b: 1,
-        c: 2,
-        d: 3,
-        e: 4,
-    };
-    lines::join_low(rest, starts, n, out, at);
+    lines::join_low(rest, lines::Five::spaced(1), n, out, at);
 }
 
-// A line of n, from `at` on, settled from five rows of the merged parts and one of the rests. Lent lists go one by one (docs/DECISIONS.md, "Lent lists").
+// A line of n, from `at` on, settled from five rows of the merged parts and one of the rests. The ends go one by one, as in
+// `nested_floor::settle`. Lent lists go one by one (docs/DECISIONS.md, "Lent lists").
 pub fn settle_line(
     own: &mut [i32],
     at: usize,

@@ -22,7 +22,8 @@ pub fn rest_part(z: i32) -> i32
 }
 
 // 2^20 times x, less 1,024 times a joined sum, less what that leaves, brought back to least..most: all in 32 bits. Only the last of the two
-// quotients by 1,024 is rounded, the carried part is dropped downward.
+// quotients by 1,024 is rounded, the carried part is dropped downward. The ends are no
+// `filters::Range`: nothing is asked of them here, nor by `second_level::settled_stage`, whose callers may not be asked more.
 pub fn settle(least: i32, most: i32, x: i32, sum: i32, small: i32) -> i32
     requires { (nat_abs x ≤ 131070) × (nat_abs sum ≤ 1962934272) × (nat_abs small ≤ 2097152) }
     ensures { result ≡ settled_two least most x sum small }

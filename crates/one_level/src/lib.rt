@@ -3,12 +3,12 @@
 
 ghost use Rattle.std.specs.Prelude.{false};
 
-use working_plane::{Colour, Level};
+use working_plane::{Colour, Depth};
 
 // One level of the bank.
 pub struct One;
 
-impl Level for One {
+impl Depth for One {
     ghost two = { false };
 
     fn run(colour: Colour, top: u16, rounds: u8, mosaic: &[u16], green: &[u16], work: &mut [i32]) {
@@ -16,7 +16,7 @@ impl Level for One {
         let least = working_plane::least_kept(top);
         let most = working_plane::most_kept(top);
         for n in 0..rounds {
-            sweep::project(work, green, given, least, most);
+            sweep::project(work, green, given, filters::Range { least, most });
             working_plane::put_observed(colour, mosaic, work);
         }
     }

@@ -8,6 +8,9 @@ use lib.Dec.{T}
 use lib.IntN.{ℤ, pos, nat_abs, ◌+ℤ◌, ◌-ℤ◌}
 use lib.ListN.{length}
 use lib.Signed.{non_neg}
+use mir.Syntax.{w64}
+use mir.Val.{Fits}
+use borrow.Author.Rules.{scaled_Fits}
 use Rattle.integers.specs.Lists.{overwrite}
 use Rattle.integers.proofs.Lists.{overwrite_in, overwrite_cong}
 use Rattle.planes.specs.Lists.{value}
@@ -28,6 +31,10 @@ use Rattle.rings.specs.Rows.{slot, slot_of, ring_line, RingRows}
 -- in slot i of n, which the machine can count to
 pub slot_inside : (i n w l : ℕ) → i < n → n * w ≤ l → i * w + w ≤ l
 slot_inside i n w l h fit = omega (arith, row_room w n i h, mul_comm w n)
+
+-- a slot's place is a number of 64 bits
+pub slot_fits : (i w : ℕ) → i < 9 → w ≤ 2048 → Fits w64 (i * w)
+slot_fits i w h k = scaled_Fits i 9 w h (omega arith)
 
 pub slot_room : (n w q : ℕ) → 1 ≤ n → slot n w q + w ≤ n * w
 slot_room n w q some = slot_inside (q % n) n w (n * w) (mod-lt q some) (omega arith)

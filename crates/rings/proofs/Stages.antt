@@ -42,25 +42,19 @@ module _ (lag : ℕ) (g : Given) (t : ℕ) where
       none : reached lag g.height (t + 1) - reached lag g.height t ≡ 0
       none = let j : reached lag g.height (t + 1) ≤ reached lag g.height t = omega (arith, i) in omega arith
 
-  -- as code goes, by how many rows are made before the step and after it
-  module _ {r next : ℕ} (is_r : r ≡ reached lag g.height t) (is_next : next ≡ reached lag g.height (t + 1)) where
-    pub working : r < next → Working lag g.height t
-    working i = omega arith
+  -- as code goes: the row that is made, at a place that is a function of its number
+  module _ {r : ℕ} (made : (r ≡ reached lag g.height t) × Working lag g.height t) where
+    pub row_worked : (l : List ℤ) (o : ℕ → ℕ) (rows : ℕ → ℕ → ℤ) {l' : List ℤ} → l' ≡ overwrite l (o r) g.width (rows r) → l' ≡ row_laid lag g t l (o (reached lag g.height t)) (rows (reached lag g.height t))
+    row_worked l o rows q = q ∙ (λ j. overwrite l (o (made.0 j)) g.width (rows (made.0 j))) ∙ sym (one_row made.1 l (o (reached lag g.height t)) (rows (reached lag g.height t)))
 
-    idle : (r < next → ⊥) → Working lag g.height t → ⊥
-    idle none i = none (omega arith)
-
-    -- at a place that is a function of the row's number
-    pub row_worked : r < next → (l : List ℤ) (o : ℕ → ℕ) (rows : ℕ → ℕ → ℤ) {l' : List ℤ} → l' ≡ overwrite l (o r) g.width (rows r) → l' ≡ row_laid lag g t l (o (reached lag g.height t)) (rows (reached lag g.height t))
-    row_worked i l o rows q = q ∙ (λ j. overwrite l (o (is_r j)) g.width (rows (is_r j))) ∙ sym (one_row (working i) l (o (reached lag g.height t)) (rows (reached lag g.height t)))
-
-    pub row_idle : (r < next → ⊥) → (l : List ℤ) (o : ℕ) (f : ℕ → ℤ) → l ≡ row_laid lag g t l o f
-    row_idle none l o f = sym (no_row (idle none) l o f)
-
-    pub ring_worked : (n : ℕ) → r < next → (l : List ℤ) (rows : ℕ → ℕ → ℤ) {l' : List ℤ} → l' ≡ overwrite l (slot n g.width r) g.width (rows r) → l' ≡ ring_row_laid n lag g t l rows
+    pub ring_worked : (n : ℕ) (l : List ℤ) (rows : ℕ → ℕ → ℤ) {l' : List ℤ} → l' ≡ overwrite l (slot n g.width r) g.width (rows r) → l' ≡ ring_row_laid n lag g t l rows
     unfolding ring_row_laid
-    ring_worked n i l rows q = row_worked i l (slot n g.width) rows q
+    ring_worked n l rows q = row_worked l (slot n g.width) rows q
 
-    pub ring_idle : (n : ℕ) → (r < next → ⊥) → (l : List ℤ) (rows : ℕ → ℕ → ℤ) → l ≡ ring_row_laid n lag g t l rows
-    unfolding ring_row_laid
-    ring_idle n none l rows = row_idle none l (slot n g.width (reached lag g.height t)) (rows (reached lag g.height t))
+  -- or none
+  pub row_idle : (Working lag g.height t → ⊥) → (l : List ℤ) (o : ℕ) (f : ℕ → ℤ) → l ≡ row_laid lag g t l o f
+  row_idle none l o f = sym (no_row none l o f)
+
+  pub ring_idle : (n : ℕ) → (Working lag g.height t → ⊥) → (l : List ℤ) (rows : ℕ → ℕ → ℤ) → l ≡ ring_row_laid n lag g t l rows
+  unfolding ring_row_laid
+  ring_idle n none l rows = row_idle none l (slot n g.width (reached lag g.height t)) (rows (reached lag g.height t))

@@ -2,7 +2,7 @@
 // step a stage makes the row that it has reached, if there is one, from rows that are still in the cache.
 #![tactic(auto)]
 
-ghost use Rattle.std.specs.Prelude.{◌≡◌, ◌+◌, ◌*◌, ◌≤◌, ◌<◌, pos, ◌+ℤ◌, ◌-ℤ◌, length};
+ghost use Rattle.std.specs.Prelude.{◌≡◌, IfSome, IfNone, ◌+◌, ◌*◌, ◌≤◌, ◌<◌, pos, ◌+ℤ◌, ◌-ℤ◌, length};
 ghost use Rattle.integers.specs.Lists.{overwrite};
 ghost use Rattle.planes.specs.Lists.{InRow};
 ghost use Rattle.planes.specs.Planes.{Sizes};
@@ -12,17 +12,17 @@ ghost use Rattle.rings.specs.Planes.{reach};
 ghost use Rattle.rings.specs.Rows.{slot, slot_of, row_at, guide_at, five_slots, difference_row, Sound, ring_line, RingRows, ring_apart, ring_together};
 ghost use Rattle.rings.specs.Stages.{reached, Working, ring_row_laid, AsLong};
 
-// How many places the lines of a sweep have, with the places beside them, and its rings of three, five, seven and nine rows. More than they need: lines some
-// multiple of 4,096 bytes apart would hinder each other in the machine's loads and stores.
-pub const LINE: usize = 2168;
+// How many places the lines of a sweep have, with the places beside them, and its rings of three, five, seven and nine rows. 120 more than the widest frame's
+// rows: lines some multiple of 4,096 bytes apart would hinder each other in the machine's loads and stores.
+pub const LINE: usize = 2048 + 120;
 
-pub const THREE_ROWS: usize = 6264;
+pub const THREE_ROWS: usize = 3 * 2048 + 120;
 
-pub const FIVE_ROWS: usize = 10360;
+pub const FIVE_ROWS: usize = 5 * 2048 + 120;
 
-pub const SEVEN_ROWS: usize = 14456;
+pub const SEVEN_ROWS: usize = 7 * 2048 + 120;
 
-pub const NINE_ROWS: usize = 18552;
+pub const NINE_ROWS: usize = 9 * 2048 + 120;
 
 // What a projection is given, beside the two lists. That the sizes are in range stays in contracts: `given` in `working_plane/specs` makes one of any numbers,
 // and with that fact in it would have to prove it.
@@ -56,7 +56,7 @@ pub struct Level {
 }
 
 // Where a ring of n slots has the row that stands `back` rows before row r.
-pub fn slot_before(given: Given, n: usize, r: usize, back: usize) -> usize
+fn slot_before(given: Given, n: usize, r: usize, back: usize) -> usize
     requires { (1 ≤ n) × (n ≤ 9) × Sizes 1 given.width given.height }
     ensures { (result ≡ slot_of n given (pos r -ℤ pos back)) × (result + given.width ≤ n * given.width) }
 {
@@ -64,7 +64,7 @@ pub fn slot_before(given: Given, n: usize, r: usize, back: usize) -> usize
 }
 
 // And the row that stands `ahead` rows after it.
-pub fn slot_after(given: Given, n: usize, r: usize, ahead: usize) -> usize
+fn slot_after(given: Given, n: usize, r: usize, ahead: usize) -> usize
     requires { (1 ≤ n) × (n ≤ 9) × Sizes 1 given.width given.height × (r < given.height) × (ahead ≤ 4) }
     ensures { (result ≡ slot_of n given (pos r +ℤ pos ahead)) × (result + given.width ≤ n * given.width) }
 {
@@ -90,11 +90,13 @@ pub fn five_slots(given: Given, n: usize, d: usize, r: usize) -> lines::Five
     }
 }
 
-// How many of `height` rows a stage that lags has made before step t.
-pub fn done(t: usize, lag: usize, height: usize) -> usize
-    ensures { result ≡ reached lag height t }
+// The row that a stage that lags makes at step t, of `height` rows, if it makes one.
+pub fn row_made(t: usize, lag: usize, height: usize) -> Option<usize>
+    ensures some { IfSome result (λ r. (r ≡ reached lag height t) × Working lag height t) }
+    ensures none { IfNone result (Working lag height t → ⊥) }
 {
-    t.saturating_sub(lag).min(height)
+    let r = t.checked_sub(lag)?;
+    if r < height { Some(r) } else { None }
 }
 
 // Row r of the differences, into its slot of the ring.
@@ -117,12 +119,11 @@ fn difference_row(own: &[i32], guide: &[u16], given: Given, r: usize, ring: &mut
 
 // The first stage: a row of the differences.
 pub fn difference_stage(own: &[i32], guide: &[u16], given: Given, t: usize, ring: &mut [i32])
-    requires sizes { Sizes 1 given.width given.height × (t ≤ 4096) × (3 * given.width ≤ length ring.old) }
+    requires sizes { Sizes 1 given.width given.height × (3 * given.width ≤ length ring.old) }
     requires run { Working 0 given.height t → Run reach own.now (row_at given (reached 0 given.height t)) given.width × InRow guide.now (guide_at given (reached 0 given.height t)) given.width given.across }
     ensures { ring.new ≡ ring_row_laid 3 0 given t ring.old (difference_row given own.now guide.now) }
 {
-    let r = done(t, 0, given.height);
-    if r < done(t + 1, 0, given.height) {
+    if let Some(r) = row_made(t, 0, given.height) {
         difference_row(own, guide, given, r, ring);
     }
 }
@@ -187,7 +188,7 @@ pub fn parts_stage(
     apart: &mut [i32],
     together: &mut [i32],
 )
-    requires sizes { Sizes 1 given.width given.height × (t ≤ 4096) × Sound level }
+    requires sizes { Sizes 1 given.width given.height × Sound level }
     requires ring_rows { Working level.lag given.height t → RingRows given level source.now (reached level.lag given.height t) }
     requires width_in_bounds { (given.width + 8 ≤ length low.old) × (given.width + 8 ≤ length high.old) × (given.width + 8 ≤ length parts.old) × (given.width + 8 ≤ length minus.old) × (given.width + 8 ≤ length plus.old) }
     requires width_in_bounds_2 { (level.slots * given.width ≤ length apart.old) × (level.slots * given.width ≤ length together.old) }
@@ -196,8 +197,7 @@ pub fn parts_stage(
     ensures together_after { together.new ≡ ring_row_laid level.slots level.lag given t together.old (ring_together given level source.now) }
     ensures as_long { AsLong high.old high.new × AsLong parts.old parts.new × AsLong minus.old minus.new × AsLong plus.old plus.new }
 {
-    let r = done(t, level.lag, given.height);
-    if r < done(t + 1, level.lag, given.height) {
+    if let Some(r) = row_made(t, level.lag, given.height) {
         parts_row(
             source, given, level, r, low, high, parts, minus, plus, apart, together,
         );

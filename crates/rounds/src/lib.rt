@@ -15,7 +15,7 @@ ghost use Rattle.rounds.specs.Calls.{planes_questions, rounds_questions, rounds_
 ghost use Rattle.rounds.specs.Colours.{red_of, blue_of};
 
 use one_level::One;
-use questions::{Refusal, Lengths, Settings, Shape};
+use questions::{Lengths, Refusal, Settings, Shape};
 use two_levels::Two;
 use working_plane::Colour;
 
@@ -85,7 +85,7 @@ fn rewrite_colours(
         column: usize::from(shape.red_column()),
         threshold: settings.threshold,
     };
-    // from here on the level is a type
+    // from here on the depth is a type
     if shape.two_levels() {
         working_plane::rewrite_both::<Two>(reds, top, rounds, mosaic, red, green, blue, work);
     } else {
@@ -100,10 +100,9 @@ fn clear(shape: Shape, work: &mut [i32], wide_work: &mut [i64])
 {
     let needed = 8 * (shape.width * shape.height);
     work[..needed].fill(0);
-    if !shape.two_levels() {
-        return;
+    if shape.two_levels() {
+        wide_work[..needed].fill(0);
     }
-    wide_work[..needed].fill(0);
 }
 
 // Runs the rounds on three given planes: red and blue are rewritten in place. The work buffer's first 8 · width · height numbers are zero

@@ -12,12 +12,11 @@ ghost use Rattle.second_level.specs.SecondLevel.{band_row, apart_row, together_r
 
 // A row of band 1, from the line that the first level's stage left: low along the columns, padded.
 pub fn band_stage(low: &[i32], given: rings::Given, t: usize, band: &mut [i32])
-    requires sizes { Sizes 1 given.width given.height × (t ≤ 4096) × (5 * given.width ≤ length band.old) }
+    requires sizes { Sizes 1 given.width given.height × (5 * given.width ≤ length band.old) }
     requires triple { Working 1 given.height t → Triple 134217728 low.now 1 given.width }
     ensures { band.new ≡ ring_row_laid 5 1 given t band.old (band_row low.now) }
 {
-    let r = rings::done(t, 1, given.height);
-    if r < rings::done(t + 1, 1, given.height) {
+    if let Some(r) = rings::row_made(t, 1, given.height) {
         let n = given.width;
         merging::band_line(low, 1, n, band, r % 5 * n);
     }
@@ -37,7 +36,7 @@ pub fn merged_stage(
     together: &mut [i32],
     rests: &mut [i32],
 )
-    requires sizes { Sizes 1 given.width given.height × (t ≤ 4096) }
+    requires sizes { Sizes 1 given.width given.height }
     requires crossing { Working 7 given.height t → Crossing 805306368 apart2.now together2.now (five_slots 9 2 given (reached 7 given.height t)) given.width × Run 1073741824 apart1.now (slot 7 given.width (reached 7 given.height t)) given.width × Run 1073741824 together1.now (slot 7 given.width (reached 7 given.height t)) given.width }
     requires width_in_bounds { (given.width + 8 ≤ length whole.old) × (given.width + 8 ≤ length rest.old) }
     requires width_in_bounds_2 { (5 * given.width ≤ length apart.old) × (5 * given.width ≤ length together.old) × (5 * given.width ≤ length rests.old) }
@@ -46,8 +45,7 @@ pub fn merged_stage(
     ensures rests_after { rests.new ≡ ring_row_laid 5 7 given t rests.old (rest_row given apart2.now together2.now) }
     ensures as_long { AsLong whole.old whole.new × AsLong rest.old rest.new }
 {
-    let r = rings::done(t, 7, given.height);
-    if r < rings::done(t + 1, 7, given.height) {
+    if let Some(r) = rings::row_made(t, 7, given.height) {
         let starts = rings::five_slots(given, 9, 2, r);
         let n = given.width;
         merging::cross(
@@ -67,7 +65,8 @@ pub fn merged_stage(
     }
 }
 
-// A row of the plane, from five rows of the merged parts and of the rests. The line is scratch. Lent lists go one by one (docs/DECISIONS.md, "Lent lists").
+// A row of the plane, from five rows of the merged parts and of the rests. The line is scratch. The ends go one by one, as in
+// `nested_floor::settle`. Lent lists go one by one (docs/DECISIONS.md, "Lent lists").
 pub fn settled_stage(
     own: &mut [i32],
     given: rings::Given,
@@ -79,13 +78,12 @@ pub fn settled_stage(
     least: i32,
     most: i32,
 )
-    requires sizes { Sizes 1 given.width given.height × (t ≤ 4096) × (given.width + 8 ≤ length line.old) }
+    requires sizes { Sizes 1 given.width given.height × (given.width + 8 ≤ length line.old) }
     requires run { Working 9 given.height t → Run reach own.old (row_at given (reached 9 given.height t)) given.width × Crossing 163577856 apart.now together.now (five_slots 5 1 given (reached 9 given.height t)) given.width × Runs 174762 rests.now (five_slots 5 1 given (reached 9 given.height t)) given.width }
     ensures own_after { own.new ≡ row_laid 9 given t own.old (row_at given (reached 9 given.height t)) (settled_row given least most own.old apart.now together.now rests.now (reached 9 given.height t)) }
     ensures as_long { AsLong line.old line.new }
 {
-    let r = rings::done(t, 9, given.height);
-    if r < rings::done(t + 1, 9, given.height) {
+    if let Some(r) = rings::row_made(t, 9, given.height) {
         let starts = rings::five_slots(given, 5, 1, r);
         let n = given.width;
         lines::join_low(rests, starts, n, line, 0);

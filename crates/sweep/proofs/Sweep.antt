@@ -25,9 +25,9 @@ use Rattle.rings.proofs.Parts.{parts_ready, apart_next, together_next}
 use Rattle.rings.proofs.Planes.{with_rows, with_none, with_all, row_ready, row_own, row_next}
 use Rattle.sweep.specs.Sweep.{settled_row, with_projected}
 
--- the one level of this sweep
-abbrev pub level_of : Given → Level
-level_of g = record { spacing = 1; limit = g.limit; source = 3; slots = 5; lag = 1 }
+-- the one level of this sweep, whose joined parts go to rings of n slots
+abbrev pub level_of : Given → ℕ → Level
+level_of g n = record { spacing = 1; limit = g.limit; source = 3; slots = n; lag = 1 }
 
 module _ (g : Given) (least most : ℤ) (own : List ℤ) (guide : List ℕ) where
   abbrev w : ℕ
@@ -61,8 +61,12 @@ module _ (g : Given) (least most : ℤ) (own : List ℤ) (guide : List ℕ) wher
 
   module _ (p : Projectable g own guide) (t : ℕ) where
     -- the level can be worked at
-    pub sound : Sound (level_of g)
-    sound = record { spacing = omega arith; limit = p.limit; source_from = omega arith; source_to = omega arith; slots_from = omega arith; slots_to = omega arith }
+    pub sound : (n : ℕ) → 1 ≤ n → n ≤ 9 → Sound (level_of g n)
+    sound n from to = record { spacing = omega arith; limit = p.limit; source_from = omega arith; source_to = omega arith; slots_from = from; slots_to = to }
+
+    -- in rings of five slots
+    five : Sound (level_of g 5)
+    five = sound 5 (omega arith) (omega arith)
 
     d_small : (r c : ℕ) → r < h → c < w → nat_abs (D r c) ≤ reach
     unfolding difference
@@ -70,14 +74,14 @@ module _ (g : Given) (least most : ℤ) (own : List ℤ) (guide : List ℕ) wher
 
     -- ---- the level's stage
     module _ {ring : List ℤ} (held : Held g 3 0 ring D (t + 1)) where
-      pub rows_ready : 3 * w ≤ length ring → Working 1 h t → RingRows g (level_of g) ring (reached 1 h t)
-      rows_ready room i = parts_ready g p.sizes.width_from (level_of g) sound t 0 (omega arith) (omega arith) held i room (λ r c j k. le_trans (d_small r c j k) (omega arith))
+      pub rows_ready : (n : ℕ) → 1 ≤ n → n ≤ 9 → 3 * w ≤ length ring → Working 1 h t → RingRows g (level_of g n) ring (reached 1 h t)
+      rows_ready n from to room i = parts_ready g p.sizes.width_from (level_of g n) (sound n from to) t 0 (omega arith) (omega arith) held i room (λ r c j k. le_trans (d_small r c j k) (omega arith))
 
-      pub aparts_next : (x : List ℤ) → 5 * w ≤ length x → Held g 5 1 x A t → {x' : List ℤ} → x' ≡ ring_row_laid 5 1 g t x (ring_apart g (level_of g) ring) → Held g 5 1 x' A (t + 1)
-      aparts_next = apart_next g p.sizes.width_from (level_of g) sound t 0 (omega arith) (omega arith) held
+      pub aparts_next : (x : List ℤ) → 5 * w ≤ length x → Held g 5 1 x A t → {x' : List ℤ} → x' ≡ ring_row_laid 5 1 g t x (ring_apart g (level_of g 5) ring) → Held g 5 1 x' A (t + 1)
+      aparts_next = apart_next g p.sizes.width_from (level_of g 5) five t 0 (omega arith) (omega arith) held
 
-      pub togethers_next : (x : List ℤ) → 5 * w ≤ length x → Held g 5 1 x B t → {x' : List ℤ} → x' ≡ ring_row_laid 5 1 g t x (ring_together g (level_of g) ring) → Held g 5 1 x' B (t + 1)
-      togethers_next = together_next g p.sizes.width_from (level_of g) sound t 0 (omega arith) (omega arith) held
+      pub togethers_next : (x : List ℤ) → 5 * w ≤ length x → Held g 5 1 x B t → {x' : List ℤ} → x' ≡ ring_row_laid 5 1 g t x (ring_together g (level_of g 5) ring) → Held g 5 1 x' B (t + 1)
+      togethers_next = together_next g p.sizes.width_from (level_of g 5) five t 0 (omega arith) (omega arith) held
 
     -- ---- the last stage
     module _ {now apart together : List ℤ} (is : now ≡ with_rows g own settled_plane (reached 3 h t)) (aparts : Held g 5 1 apart A (t + 1)) (togethers : Held g 5 1 together B (t + 1)) where

@@ -4,7 +4,6 @@
 
 ghost use Rattle.std.specs.Prelude.{◌≡◌, ◌+◌, ◌*◌, ◌≤◌, length};
 ghost use Rattle.planes.specs.Planes.{Sizes};
-ghost use Rattle.filters.specs.Bank.{Ends};
 ghost use Rattle.lines.specs.Lines.{Run};
 ghost use Rattle.details.specs.Details.{Crossing};
 ghost use Rattle.rings.specs.Planes.{reach, Projectable};
@@ -43,19 +42,17 @@ fn settled_stage(
     t: usize,
     apart: &[i32],
     together: &[i32],
-    least: i32,
-    most: i32,
+    range: filters::Range,
 )
-    requires sizes { Sizes 1 given.width given.height × (t ≤ 4096) × Ends least most }
+    requires sizes { Sizes 1 given.width given.height }
     requires run { Working 3 given.height t → Run reach own.old (row_at given (reached 3 given.height t)) given.width × Crossing 134217728 apart.now together.now (five_slots 5 1 given (reached 3 given.height t)) given.width }
-    ensures { own.new ≡ row_laid 3 given t own.old (row_at given (reached 3 given.height t)) (settled_row given least most own.old apart.now together.now (reached 3 given.height t)) }
+    ensures { own.new ≡ row_laid 3 given t own.old (row_at given (reached 3 given.height t)) (settled_row given range.least range.most own.old apart.now together.now (reached 3 given.height t)) }
 {
-    let r = rings::done(t, 3, given.height);
-    if r < rings::done(t + 1, 3, given.height) {
+    if let Some(r) = rings::row_made(t, 3, given.height) {
         let starts = rings::five_slots(given, 5, 1, r);
         let n = given.width;
         let row = given.at + r * n;
-        details::settle_line(own, row, apart, together, starts, n, least, most);
+        details::settle_line(own, row, apart, together, starts, n, range);
     }
 }
 
@@ -64,12 +61,11 @@ fn project_rows(
     own: &mut [i32],
     guide: &[u16],
     given: rings::Given,
-    least: i32,
-    most: i32,
+    range: filters::Range,
     kept: &mut Rings,
 )
-    requires { Projectable given own.old guide.now × Ends least most }
-    ensures { own.new ≡ with_projected given least most own.old guide.now }
+    requires { Projectable given own.old guide.now }
+    ensures { own.new ≡ with_projected given range.least range.most own.old guide.now }
 {
     let level = rings::Level {
         spacing: 1,
@@ -94,14 +90,14 @@ fn project_rows(
             &mut kept.apart,
             &mut kept.together,
         );
-        settled_stage(own, given, t, &kept.apart, &kept.together, least, most);
+        settled_stage(own, given, t, &kept.apart, &kept.together, range);
     }
 }
 
-// The plane's details held within the guide's ± limit, and the plane brought back to least..most.
-pub fn project(own: &mut [i32], guide: &[u16], given: rings::Given, least: i32, most: i32)
-    requires { Projectable given own.old guide.now × Ends least most }
-    ensures { own.new ≡ with_projected given least most own.old guide.now }
+// The plane's details held within the guide's ± limit, and the plane brought back to range.least..range.most.
+pub fn project(own: &mut [i32], guide: &[u16], given: rings::Given, range: filters::Range)
+    requires { Projectable given own.old guide.now }
+    ensures { own.new ≡ with_projected given range.least range.most own.old guide.now }
 {
     let mut kept = Rings {
         differences: [0; THREE_ROWS],
@@ -113,5 +109,5 @@ pub fn project(own: &mut [i32], guide: &[u16], given: rings::Given, least: i32, 
         high: [0; LINE],
         low: [0; LINE],
     };
-    project_rows(own, guide, given, least, most, &mut kept);
+    project_rows(own, guide, given, range, &mut kept);
 }

@@ -9,7 +9,8 @@ ghost use Rattle.rings.specs.Stages.{AsLong};
 ghost use Rattle.two_level_rows.specs.TwoLevels.{with_projected};
 
 // The plane's details at the first level held within the guide's ± given.limit, band 1's within ± second_limit, and the plane brought back to
-// least..most. The rings and lines are scratch. Lent lists go one by one (docs/DECISIONS.md, "Lent lists").
+// least..most. The ends go one by one, as in `nested_floor::settle`. The rings and lines are scratch. Lent lists
+// go one by one (docs/DECISIONS.md, "Lent lists").
 pub fn project_rows(
     own: &mut [i32],
     guide: &[u16],

@@ -7,7 +7,7 @@ ghost use Rattle.rings.specs.Planes.{Projectable};
 ghost use Rattle.two_level_rows.specs.TwoLevels.{with_projected};
 
 use rings::{FIVE_ROWS, LINE, NINE_ROWS, SEVEN_ROWS, THREE_ROWS};
-use working_plane::{Colour, Level};
+use working_plane::{Colour, Depth};
 
 // What a sweep of two levels keeps from step to step: the rows that are needed again, and scratch. The lines stand in the order of those of one level
 // (`sweep`), and for the same reason.
@@ -80,7 +80,7 @@ fn project(
 // Two levels of the bank.
 pub struct Two;
 
-impl Level for Two {
+impl Depth for Two {
     ghost two = { true };
 
     fn run(colour: Colour, top: u16, rounds: u8, mosaic: &[u16], green: &[u16], work: &mut [i32]) {

@@ -28,6 +28,8 @@ use Rattle.rings.specs.declared.Given.{Given}
 use Rattle.rings.specs.Planes.{own_plane, guide_plane, Projectable}
 use Rattle.sweep.specs.Sweep.{with_projected}
 use Rattle.work_buffer.specs.Buffer.{with_plane, Narrow, Workable}
+use Rattle.work_buffer.specs.Places.{places_of}
+use Rattle.work_buffer.specs.declared.Places.{Places}
 use Rattle.work_buffer.proofs.Buffer.{with_plane_at, narrow_plane}
 use Rattle.update.specs.Update.{small_plane, mixed, put_mixed}
 use Rattle.update.specs.Places.{small_mixed, with_mixed}
@@ -61,12 +63,15 @@ module _ (w h a b : ℕ) (ha : a < 2) (hb : b < 2) where
   at_place = place (a * w + b) (2 * w) columns
 
   -- what the projection is given, of a guide that stands where it may
-  abbrev pub given : ℕ → ℕ → ℕ → ℤ → Given
+  abbrev given : ℕ → ℕ → ℕ → ℤ → Given
   given from down across limit = record { at = 0; from = from; down = down; across = across; width = columns; height = rows; limit = limit }
 
   -- ---- the work buffer
   module _ (mosaic green : List ℕ) (work : List ℤ) (room : columns * rows ≤ length work) where
-    module _ {gathered : List ℤ} (e : gathered ≡ overwrite work 0 (columns * rows) (λ k. sample green (at_place k))) where
+    module _ {p : Places} (is : p ≡ places_of w h a b) {gathered : List ℤ} (laid : gathered ≡ overwrite work 0 (p.columns * p.rows) (λ k. sample green (place p.from p.down p.columns k))) where
+      e : gathered ≡ overwrite work 0 (columns * rows) (λ k. sample green (at_place k))
+      e = laid ∙ ap (λ (q : Places). overwrite work 0 (q.columns * q.rows) (λ k. sample green (place q.from q.down q.columns k))) is
+
       -- the gathered numbers are green's small plane
       gathered_small : Agree columns rows (λ i j. value gathered (0 + (i * columns + j))) (small_plane a b (λ r c. pos (plane_of 0 w green r c)))
       unfolding sample
@@ -77,10 +82,10 @@ module _ (w h a b : ℕ) (ha : a < 2) (hb : b < 2) where
           ∙ (unfold small_plane plane_of in refl)
 
       -- they may be projected
-      pub projectable : Workable w h mosaic green (length work) → ((k : ℕ) → get_or mosaic k 0 ≤ 65535) → ((k : ℕ) → get_or green k 0 ≤ 65535) → (from down across : ℕ) (limit : ℤ) → from ≤ a * w + b → down ≤ 2 * w → across ≤ 2 → Distance limit
+      small_projectable : Workable w h mosaic green (length work) → ((k : ℕ) → get_or mosaic k 0 ≤ 65535) → ((k : ℕ) → get_or green k 0 ≤ 65535) → (from down across : ℕ) (limit : ℤ) → from ≤ a * w + b → down ≤ 2 * w → across ≤ 2 → Distance limit
           → Projectable (given from down across limit) gathered mosaic
       unfolding own_plane guide_plane sample half
-      projectable u sm sg from down across limit p q r distance = record {
+      small_projectable u sm sg from down across limit p q r distance = record {
         sizes = sized (omega (arith, u.sizes.width_from)) (omega (arith, u.sizes.width_to)) (omega (arith, u.sizes.height_from)) (omega (arith, u.sizes.height_to));
         limit = distance;
         inside = omega (arith, room, ap length e, length-overwrite work 0 (columns * rows) (λ k. sample green (at_place k)) (omega arith));
@@ -92,11 +97,20 @@ module _ (w h a b : ℕ) (ha : a < 2) (hb : b < 2) where
           bound : (k : ℕ) → k < columns * rows → nat_abs (value gathered (0 + k)) ≤ 65535
           bound k hk = subst (λ (z : ℤ). nat_abs z ≤ 65535) (sym (ap (λ (l : List ℤ). value l (0 + k)) e ∙ overwrite_in work 0 (columns * rows) (λ k. sample green (at_place k)) k (pos 0) (omega arith) hk)) (sg (at_place k))
 
+      -- as the code has their sizes
+      pub projectable : Workable w h mosaic green (length work) → ((k : ℕ) → get_or mosaic k 0 ≤ 65535) → ((k : ℕ) → get_or green k 0 ≤ 65535) → (from down across : ℕ) (limit : ℤ) → from ≤ a * w + b → down ≤ 2 * w → across ≤ 2 → Distance limit
+          → Projectable (record { at = 0; from = from; down = down; across = across; width = p.columns; height = p.rows; limit = limit }) gathered mosaic
+      projectable u sm sg from down across limit f d s distance =
+          subst (λ (q : Places). Projectable (record { at = 0; from = from; down = down; across = across; width = q.columns; height = q.rows; limit = limit }) gathered mosaic) (sym is)
+          (small_projectable u sm sg from down across limit f d s distance)
+
       -- the projection leaves what is to be put
-      pub mixed_laid : (top : ℕ) {laid : List ℤ} → laid ≡ with_projected (given (a * w + b) (2 * w) 2 (pos 0)) (pos 0) (pos top) gathered mosaic → laid ≡ with_mixed top w h a b mosaic green work
+      pub mixed_laid : (top : ℕ) {limit least most : ℤ} → limit ≡ pos 0 → least ≡ pos 0 → most ≡ pos top → {left : List ℤ}
+          → left ≡ with_projected (record { at = 0; from = p.from; down = p.down; across = 2; width = p.columns; height = p.rows; limit = limit }) least most gathered mosaic → left ≡ with_mixed top w h a b mosaic green work
       unfolding with_projected with_mixed with_plane small_mixed own_plane guide_plane
-      mixed_laid top q =
-          q ∙ overwrite_cong gathered 0 (columns * rows) _ new (λ k hk. at (k / columns) (k % columns) (row_inside columns rows k hk) (column_inside columns rows k hk))
+      mixed_laid top zero floor ceiling q =
+          q ∙ (λ i. with_projected (record { at = 0; from = (is i).from; down = (is i).down; across = 2; width = (is i).columns; height = (is i).rows; limit = zero i }) (floor i) (ceiling i) gathered mosaic)
+          ∙ overwrite_cong gathered 0 (columns * rows) _ new (λ k hk. at (k / columns) (k % columns) (row_inside columns rows k hk) (column_inside columns rows k hk))
           ∙ ap (λ (l : List ℤ). overwrite l 0 (columns * rows) new) e ∙ overwrite_again (pos 0) work 0 (columns * rows) (columns * rows) _ new (omega arith) (omega arith)
         where
           new : ℕ → ℤ
@@ -114,7 +128,7 @@ module _ (w h a b : ℕ) (ha : a < 2) (hb : b < 2) where
               projected_agrees (pos 0) (pos 0) (pos top) columns rows _ colour _ own (λ r c hr hc. guide_small w a b mosaic r c) gathered_small i j hi hj
               ∙ projected-mixed top columns rows own colour i j
 
-    module _ (top : ℕ) {laid : List ℤ} (e : laid ≡ with_mixed top w h a b mosaic green work) where
+    module _ (top : ℕ) {p : Places} (is : p ≡ places_of w h a b) {laid : List ℤ} (e : laid ≡ with_mixed top w h a b mosaic green work) where
       -- its numbers, one by one
       laid_at : (k : ℕ) → k < columns * rows → value laid k ≡ pos (small_mixed top w h a b mosaic green (k / columns) (k % columns))
       unfolding with_mixed
@@ -125,18 +139,21 @@ module _ (w h a b : ℕ) (ha : a < 2) (hb : b < 2) where
       unfolding small_mixed
       small_bound r c = mixed_bound top columns rows _ _ r c
 
-      pub mixed_narrow : top ≤ 65535 → Narrow laid 0 (columns * rows)
+      pub mixed_narrow : top ≤ 65535 → Narrow laid 0 (p.columns * p.rows)
       unfolding with_mixed
-      mixed_narrow few = narrow_plane columns rows work room (λ i j. pos (small_mixed top w h a b mosaic green i j)) e (λ r c hr hc. (tt, omega (arith, small_bound r c, few)))
+      mixed_narrow few = subst (λ (q : Places). Narrow laid 0 (q.columns * q.rows)) (sym is) (narrow_plane columns rows work room (λ i j. pos (small_mixed top w h a b mosaic green i j)) e (λ r c hr hc. (tt, omega (arith, small_bound r c, few))))
 
       -- put back, they are the update of these places
-      pub green_laid : {after : List ℕ} → length green ≡ w * h → after ≡ put green (columns * rows) at_place (λ k. nat_abs (value laid k))
+      pub green_laid : {after : List ℕ} → length green ≡ w * h → after ≡ put green (p.columns * p.rows) (place p.from p.down p.columns) (λ k. nat_abs (value laid k))
           → after ≡ listing w h (put_mixed top w h a b (plane_of 0 w mosaic) (plane_of 0 w green) (plane_of 0 w green))
       unfolding listing put_mixed
-      green_laid {after} long q =
+      green_laid {after} long put_back =
           sym (tabulate-get_or after (w * h) 0 (ap length q ∙ length-put green (columns * rows) at_place _ ∙ long))
           ∙ tabulate_cong (w * h) _ _ (λ k hk. ap (λ (l : List ℕ). get_or l k 0) q ∙ put-colour w h a b ha hb 0 green (λ j. nat_abs (value laid j)) new there k hk (omega (arith, long)) ∙ ap (cond (eqb (k / w % 2) a && eqb (k % w % 2) b) (new (k / w) (k % w))) (kept k))
         where
+          q : after ≡ put green (columns * rows) at_place (λ k. nat_abs (value laid k))
+          q = put_back ∙ ap (λ (x : Places). put green (x.columns * x.rows) (place x.from x.down x.columns) (λ k. nat_abs (value laid k))) is
+
           new : ℕ → ℕ → ℕ
           new r c = mixed top columns rows (small_plane a b (λ i j. pos (plane_of 0 w green i j))) (small_plane a b (λ i j. pos (plane_of 0 w mosaic i j))) (r / 2) (c / 2)
 

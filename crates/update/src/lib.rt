@@ -1,5 +1,4 @@
-// Document 01's green update. What a function is told of a colour (its parities, the sizes, the ceiling) goes as numbers, as the laws have them; a list comes with
-// a place in it, and is no part cut from it (docs/DECISIONS.md, "Lent lists").
+// Document 01's green update. A colour goes as its parities, or as its places; a list comes with a place in it, and is no part cut from it (docs/DECISIONS.md, "Lent lists").
 #![tactic(auto)]
 
 ghost use Rattle.std.specs.Prelude.{◌≡◌, ◌+◌, ◌*◌, ◌≤◌, ◌<◌, nat_abs, length};
@@ -17,6 +16,7 @@ ghost use Rattle.update.specs.Calls.{update_questions, update_list, update_call}
 ghost use Rattle.update.specs.Places.{with_mixed};
 
 use questions::{Refusal, Shape};
+use work_buffer::Places;
 
 // Every second sample of a row, n of them from `from` on: into the work buffer, from `to` on.
 fn gather_row(green: &[u16], from: usize, n: usize, work: &mut [i32], to: usize)
@@ -28,13 +28,19 @@ fn gather_row(green: &[u16], from: usize, n: usize, work: &mut [i32], to: usize)
     }
 }
 
-// All rows of a small plane, `down` apart in green, into the work buffer's first numbers.
-fn gather(green: &[u16], from: usize, down: usize, columns: usize, rows: usize, work: &mut [i32])
-    requires { InPlane green.now from columns rows down 2 × (columns * rows ≤ length work.old) }
-    ensures { work.new ≡ overwrite work.old 0 (columns * rows) (λ k. sample green.now (place from down columns k)) }
+// Green at these places into the work buffer's first numbers: a small plane.
+fn gather(green: &[u16], places: Places, work: &mut [i32])
+    requires { InPlane green.now places.from places.columns places.rows places.down 2 × (places.columns * places.rows ≤ length work.old) }
+    ensures { work.new ≡ overwrite work.old 0 (places.columns * places.rows) (λ k. sample green.now (place places.from places.down places.columns k)) }
 {
-    for i in 0..rows {
-        gather_row(green, from + i * down, columns, work, i * columns);
+    for i in 0..places.rows {
+        gather_row(
+            green,
+            places.from + i * places.down,
+            places.columns,
+            work,
+            i * places.columns,
+        );
     }
 }
 
@@ -48,49 +54,52 @@ fn scatter_row(work: &[i32], at: usize, n: usize, green: &mut [u16], from: usize
     }
 }
 
-// All rows of a small plane back to their places in green.
-fn scatter(work: &[i32], columns: usize, rows: usize, green: &mut [u16], from: usize, down: usize)
-    requires { Narrow work.now 0 (columns * rows) × InPlane green.old from columns rows down 2 }
-    ensures { green.new ≡ put green.old (columns * rows) (place from down columns) (λ k. nat_abs (value work.now k)) }
+// All rows of a small plane back to its places in green.
+fn scatter(work: &[i32], green: &mut [u16], places: Places)
+    requires { Narrow work.now 0 (places.columns * places.rows) × InPlane green.old places.from places.columns places.rows places.down 2 }
+    ensures { green.new ≡ put green.old (places.columns * places.rows) (place places.from places.down places.columns) (λ k. nat_abs (value work.now k)) }
 {
-    for i in 0..rows {
-        scatter_row(work, i * columns, columns, green, from + i * down);
+    for i in 0..places.rows {
+        scatter_row(
+            work,
+            i * places.columns,
+            places.columns,
+            green,
+            places.from + i * places.down,
+        );
     }
 }
 
-// Green at a colour's places, which have the parities a in row and b in column. Held within 0 of the colour's details, it keeps its
+// Green at a colour's places, by the parities of the colour's rows and columns. Held within 0 of the colour's details, it keeps its
 // band 1 and takes the colour's bands 2 to 4; it is brought back to 0..top.
 fn update_places(
     top: u16,
     width: usize,
     height: usize,
-    a: usize,
-    b: usize,
+    row: usize,
+    column: usize,
     mosaic: &[u16],
     green: &mut [u16],
     work: &mut [i32],
 )
-    requires { Workable width height mosaic.now green.old (length work.old) × (a < 2) × (b < 2) }
-    ensures green_after { green.new ≡ listing width height (put_mixed top width height a b (plane_of 0 width mosaic.now) (plane_of 0 width green.old) (plane_of 0 width green.old)) }
-    ensures work_after { work.new ≡ with_mixed top width height a b mosaic.now green.old work.old }
+    requires { Workable width height mosaic.now green.old (length work.old) × (row < 2) × (column < 2) }
+    ensures green_after { green.new ≡ listing width height (put_mixed top width height row column (plane_of 0 width mosaic.now) (plane_of 0 width green.old) (plane_of 0 width green.old)) }
+    ensures work_after { work.new ≡ with_mixed top width height row column mosaic.now green.old work.old }
 {
-    let columns = (width + 1 - b) / 2;
-    let rows = (height + 1 - a) / 2;
-    let from = a * width + b;
-    let down = 2 * width;
+    let places = Places::of(width, height, row, column);
     let given = rings::Given {
         at: 0,
-        from,
-        down,
+        from: places.from,
+        down: places.down,
         across: 2,
-        width: columns,
-        height: rows,
+        width: places.columns,
+        height: places.rows,
         limit: 0,
     };
     let most = i32::from(top);
-    gather(green, from, down, columns, rows, work);
-    sweep::project(work, mosaic, given, 0, most);
-    scatter(work, columns, rows, green, from, down);
+    gather(green, places, work);
+    sweep::project(work, mosaic, given, filters::Range { least: 0, most });
+    scatter(work, green, places);
 }
 
 // Questions 1, 2, 3, 6, 8, 9 and 10, of samples up to top and a work buffer that has room for so many numbers.
@@ -129,13 +138,9 @@ fn update_colours(top: u16, shape: Shape, mosaic: &[u16], green: &mut [u16], wor
     ensures green_after { green.new ≡ update_list top (framed shape mosaic.now) green.old }
     ensures work_after { work.new ≡ zeroed shape.width shape.height work.old }
 {
-    let Shape {
-        width,
-        height,
-        layout,
-    } = shape;
-    let red_row = usize::from(layout / 2 % 2);
-    let red_column = usize::from(layout % 2);
+    let Shape { width, height, .. } = shape;
+    let red_row = usize::from(shape.red_row());
+    let red_column = usize::from(shape.red_column());
     let blue_row = 1 - red_row;
     let blue_column = 1 - red_column;
     update_places(
@@ -161,7 +166,7 @@ pub fn update(
 ) -> Result<(), Refusal>
     ensures { Outcome (update_call ceiling (framed shape mosaic.now) green.old work.old) result (green.new, work.new) }
 {
-    let top = 4095;
+    let top = questions::CEILING;
     ask_update(top, shape, mosaic, green, work.len())?;
     update_colours(top, shape, mosaic, green, work);
     Ok(())

@@ -17,11 +17,13 @@ use Rattle.integers.specs.Numbers.{clamp}
 use Rattle.integers.proofs.Clamping.{clamp-sample}
 use Rattle.integers.proofs.Lists.{length-tabulate, get_or-tabulate, length-overwrite, overwrite_in, overwrite_at, overwrite_cong, overwrite_again}
 use Rattle.planes.specs.Planes.{plane_of, Agree}
-use Rattle.planes.specs.Lists.{value, sample, put}
+use Rattle.planes.specs.Lists.{value, sample, put, InPlane}
 use Rattle.planes.specs.Places.{half, place}
 use Rattle.planes.proofs.Planes.{row_inside, column_inside, place_inside}
-use Rattle.planes.proofs.Places.{length-put, row-place, small_place, put-colour, put-after}
+use Rattle.planes.proofs.Places.{length-put, row-place, small_place, small_rows, put-colour, put-after}
 use Rattle.work_buffer.specs.Buffer.{with_plane, zeroed, Narrow}
+use Rattle.work_buffer.specs.Places.{places_of}
+use Rattle.work_buffer.specs.declared.Places.{Places}
 
 module _ (w h : ℕ) (work : List ℤ) (room : w * h ≤ length work) where
   pub length-with_plane : (p : ℕ → ℕ → ℤ) → length (with_plane w h p work) ≡ length work
@@ -94,6 +96,13 @@ pub zeroed_again : (w h : ℕ) (work : List ℤ) → 8 * (w * h) ≤ length work
 unfolding zeroed
 zeroed_again w h work room = overwrite_again (pos 0) work 0 (8 * (w * h)) (8 * (w * h)) _ _ (omega arith) (omega (arith, room))
 
+-- ---- a colour's places
+-- they lie in a list of the frame's length, and so do as many that stand no farther on
+pub places_inside : (w h a b : ℕ) → a < 2 → b < 2 → (s : List ℕ) → length s ≡ w * h → 2 ≤ w → {from down columns rows : ℕ} → from ≤ a * w + b → down ≤ 2 * w → columns ≡ half w b → rows ≡ half h a
+    → InPlane s from columns rows down 2
+places_inside w h a b ha hb s long hw {from} {down} {columns} {rows} p q n m =
+    subst (λ (x : ℕ). InPlane s from x rows down 2) (sym n) (subst (λ (y : ℕ). InPlane s from (half w b) y down 2) (sym m) (small_rows w h a b ha hb s long hw from down p q))
+
 -- ---- samples of a frame in it
 -- all of them
 pub loaded : (w h : ℕ) (plane : List ℕ) (work : List ℤ) {l : List ℤ} → length plane ≡ w * h → l ≡ overwrite work 0 (length plane) (sample plane)
@@ -104,16 +113,19 @@ loaded w h plane work e q =
     ∙ overwrite_cong work 0 (w * h) _ _ (λ k b. ap (λ (n : ℕ). pos (get_or plane n 0)) (sym (div-add-mod' k w)))
 
 -- those at a colour's places
-pub put_samples : (w h a b : ℕ) → a < 2 → b < 2 → (mosaic : List ℕ) (work : List ℤ) → w * h ≤ length work → {l : List ℤ}
-    → let at = place (a * w + b) (2 * w) (half w b) in l ≡ put work (half w b * half h a) at (λ k. sample mosaic (at k))
+pub put_samples : (w h a b : ℕ) → a < 2 → b < 2 → (mosaic : List ℕ) (work : List ℤ) → w * h ≤ length work → {p : Places} → p ≡ places_of w h a b → {l : List ℤ}
+    → l ≡ put work (p.columns * p.rows) (place p.from p.down p.columns) (λ k. sample mosaic (place p.from p.down p.columns k))
     → l ≡ with_plane w h (λ r c. cond (eqb (r % 2) a && eqb (c % 2) b) (pos (plane_of 0 w mosaic r c)) (plane_of (pos 0) w work r c)) work
-put_samples w h a b ha hb mosaic work room {l} e =
+put_samples w h a b ha hb mosaic work room q {l} laid =
     with_plane_is w h work room _ (ap length e ∙ length-put work (half w b * half h a) at (λ k. sample mosaic (at k)))
     (λ k hk. ap (λ (x : List ℤ). value x k) e ∙ put-colour w h a b ha hb (pos 0) work (λ k. sample mosaic (at k)) (λ r c. pos (plane_of 0 w mosaic r c)) there k hk room ∙ ap (cond (eqb (k / w % 2) a && eqb (k % w % 2) b) (pos (plane_of 0 w mosaic (k / w) (k % w)))) (own k))
     (λ k past hk. ap (λ (x : List ℤ). value x k) e ∙ put-after w h a b ha hb (pos 0) work (λ k. sample mosaic (at k)) k past hk)
   where
     at : ℕ → ℕ
     at = place (a * w + b) (2 * w) (half w b)
+
+    e : l ≡ put work (half w b * half h a) at (λ k. sample mosaic (at k))
+    e = laid ∙ ap (λ (p : Places). put work (p.columns * p.rows) (place p.from p.down p.columns) (λ k. sample mosaic (place p.from p.down p.columns k))) q
 
     there : (i j : ℕ) → i < half h a → j < half w b → sample mosaic (at (i * half w b + j)) ≡ pos (plane_of 0 w mosaic (2 * i + a) (2 * j + b))
     there i j hi hj = unfold sample plane_of in ap (λ (n : ℕ). pos (get_or mosaic n 0)) (row-place (a * w + b) (2 * w) (half w b) i j hj ∙ small_place w a b i j)

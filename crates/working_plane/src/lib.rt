@@ -12,6 +12,8 @@ ghost use Rattle.work_buffer.specs.Buffer.{with_plane, zeroed, Workable};
 ghost use Rattle.working_plane.specs.Rounds.{least_kept, most_kept, working_plane};
 ghost use Rattle.working_plane.specs.Colours.{round_of, given, other, rewritten_list, KeptPlane};
 
+use work_buffer::Places;
+
 // A colour's places, by the frame's sizes and the parities of the colour's rows and columns; and the threshold. The ceiling goes beside it, a
 // number that the compiler then clips with. That the parities are below 2 stays in contracts: `other`, `red_of` and `blue_of` in specs/ make a colour of any
 // numbers, and with that fact in it would have to prove it.
@@ -25,7 +27,7 @@ pub struct Colour {
 }
 
 // The other colour of red and blue.
-pub fn other(colour: Colour) -> Colour
+fn other(colour: Colour) -> Colour
     requires { (colour.row < 2) × (colour.column < 2) }
     ensures { result ≡ other colour }
 {
@@ -69,8 +71,9 @@ pub fn most_kept(top: u16) -> i32
     2 * i32::from(top)
 }
 
-// A plane's samples into the work buffer's first numbers: the working plane.
-pub fn load(plane: &[u16], work: &mut [i32])
+// A plane's samples into the work buffer's first numbers: the working plane. By index: what `work.iter_mut().zip(plane)` has written has no name in a
+// loop's invariant.
+fn load(plane: &[u16], work: &mut [i32])
     requires { length plane.now ≤ length work.old }
     ensures { work.new ≡ overwrite work.old 0 (length plane.now) (sample plane.now) }
 {
@@ -79,8 +82,8 @@ pub fn load(plane: &[u16], work: &mut [i32])
     }
 }
 
-// The working plane back into a plane of samples, clipped to 0..top: after the last round.
-pub fn unload(work: &[i32], top: u16, plane: &mut [u16])
+// The working plane back into a plane of samples, clipped to 0..top: after the last round. By index, as in `load`.
+fn unload(work: &[i32], top: u16, plane: &mut [u16])
     requires { length plane.old ≤ length work.now }
     ensures { plane.new ≡ tabulate (length plane.old) (λ k. clipped top (value work.now k)) }
 {
@@ -102,31 +105,28 @@ fn observe_row(mosaic: &[u16], from: usize, n: usize, work: &mut [i32])
     }
 }
 
-// The observed samples of a colour into its working plane. Its rows stand `down` apart.
-fn observe(mosaic: &[u16], from: usize, down: usize, columns: usize, rows: usize, work: &mut [i32])
-    requires { InPlane mosaic.now from columns rows down 2 × (length mosaic.now ≤ length work.old) }
-    ensures { work.new ≡ put work.old (columns * rows) (place from down columns) (λ k. sample mosaic.now (place from down columns k)) }
+// The observed samples at these places, into the same ones of the working plane.
+fn observe(mosaic: &[u16], places: Places, work: &mut [i32])
+    requires { InPlane mosaic.now places.from places.columns places.rows places.down 2 × (length mosaic.now ≤ length work.old) }
+    ensures { work.new ≡ put work.old (places.columns * places.rows) (place places.from places.down places.columns) (λ k. sample mosaic.now (place places.from places.down places.columns k)) }
 {
-    for i in 0..rows {
-        observe_row(mosaic, from + i * down, columns, work);
+    for i in 0..places.rows {
+        observe_row(mosaic, places.from + i * places.down, places.columns, work);
     }
 }
 
-// The same, by the colour's places.
+// The observed samples of a colour into its working plane.
 pub fn put_observed(colour: Colour, mosaic: &[u16], work: &mut [i32])
     requires sizes { Sizes 2 colour.width colour.height × (colour.row < 2) × (colour.column < 2) }
     requires mosaic_len { (length mosaic.now ≡ colour.width * colour.height) × (colour.width * colour.height ≤ length work.old) }
     ensures { work.new ≡ with_plane colour.width colour.height (put_at_places colour.row colour.column (λ r c. pos (plane_of 0 colour.width mosaic.now r c)) (plane_of (pos 0) colour.width work.old)) work.old }
 {
-    let width = colour.width;
-    let first = colour.row * width + colour.column;
-    let columns = (width + 1 - colour.column) / 2;
-    let rows = (colour.height + 1 - colour.row) / 2;
-    observe(mosaic, first, 2 * width, columns, rows, work);
+    let places = Places::of(colour.width, colour.height, colour.row, colour.column);
+    observe(mosaic, places, work);
 }
 
-// One level of the bank, or two: how the rounds of one colour's working plane are run.
-pub trait Level {
+// How deep the bank goes, one level or two: how the rounds of one colour's working plane are run.
+pub trait Depth {
     ghost two: { Bool };
 
     // So many rounds: the projection on green, and then the observed samples.
@@ -137,7 +137,7 @@ pub trait Level {
 
 // A colour's plane: loaded, worked on through all rounds, and unloaded once, clipped. It is called twice, so the compiler leaves it by itself: what `run` has on
 // its stack is on the stack of this function, and not on its callers'.
-fn rewrite<L: Level>(
+fn rewrite<D: Depth>(
     colour: Colour,
     top: u16,
     rounds: u8,
@@ -147,17 +147,17 @@ fn rewrite<L: Level>(
     work: &mut [i32],
 )
     requires { Workable colour.width colour.height mosaic.now green.now (length work.old) × (colour.row < 2) × (colour.column < 2) × (length plane.old ≡ colour.width * colour.height) }
-    ensures plane_after { plane.new ≡ rewritten_list L.two colour top rounds mosaic.now green.now plane.old }
+    ensures plane_after { plane.new ≡ rewritten_list D.two colour top rounds mosaic.now green.now plane.old }
     ensures work_unchanged { zeroed colour.width colour.height work.new ≡ zeroed colour.width colour.height work.old }
 {
     load(plane, work);
-    L::run(colour, top, rounds, mosaic, green, work);
+    D::run(colour, top, rounds, mosaic, green, work);
     unload(work, top, plane);
 }
 
 // Red, and then blue. The work buffer's first 8 · width · height numbers are scratch.
 // Lent lists go one by one (docs/DECISIONS.md, "Lent lists").
-pub fn rewrite_both<L: Level>(
+pub fn rewrite_both<D: Depth>(
     reds: Colour,
     top: u16,
     rounds: u8,
@@ -169,11 +169,11 @@ pub fn rewrite_both<L: Level>(
 )
     requires workable { Workable reds.width reds.height mosaic.now green.now (length work.old) × (reds.row < 2) × (reds.column < 2) }
     requires red_len { (length red.old ≡ reds.width * reds.height) × (length blue.old ≡ reds.width * reds.height) }
-    ensures red_after { red.new ≡ rewritten_list L.two reds top rounds mosaic.now green.now red.old }
-    ensures blue_after { blue.new ≡ rewritten_list L.two (other reds) top rounds mosaic.now green.now blue.old }
+    ensures red_after { red.new ≡ rewritten_list D.two reds top rounds mosaic.now green.now red.old }
+    ensures blue_after { blue.new ≡ rewritten_list D.two (other reds) top rounds mosaic.now green.now blue.old }
     ensures work_unchanged { zeroed reds.width reds.height work.new ≡ zeroed reds.width reds.height work.old }
 {
     let blues = other(reds);
-    rewrite::<L>(reds, top, rounds, mosaic, green, red, work);
-    rewrite::<L>(blues, top, rounds, mosaic, green, blue, work);
+    rewrite::<D>(reds, top, rounds, mosaic, green, red, work);
+    rewrite::<D>(blues, top, rounds, mosaic, green, blue, work);
 }

@@ -8,12 +8,12 @@ use mir.Syntax.{w32}
 use mir.Val.{to_z, of_z}
 use mir.Facts.{to_z-of_z as back}
 use Rattle.integers.specs.Numbers.{whole_divided, clamp}
-use Rattle.integers.proofs.Bounds.{abs_sub, read_is, fits, bounds}
+use Rattle.integers.proofs.Bounds.{abs_sub, fits_abs, read_is, fits, bounds}
 use Rattle.integers.proofs.Clamping.{clamp_bound}
 use Rattle.integers.proofs.Shifts.{shifted}
 use Rattle.filters.proofs.Quotients.{rescaled_from_least}
 use Rattle.filters.proofs.rescale_less.Goals as goal
-use Rattle.filters.proofs.rescale_less.Goals.{After-clipped, Start}
+use Rattle.filters.proofs.rescale_less.Goals.{After-clipped}
 
 pub overflow_mul-above : goal.overflow_mul-above
 overflow_mul-above c = fits (search bounds depth 14) tt
@@ -34,37 +34,44 @@ overflow_sub-most c = fits (search bounds depth 14) tt
 abbrev read : ℤ → ℤ
 read z = to_z w32 (of_z w32 z)
 
+-- the ends are
+least_read : (c : goal.After-clipped) → read c.args.range.least ≡ c.args.range.least
+least_read c = back (fits_abs w32 c.args.range.least (omega (arith, c.args.range.near.from)))
+
+most_read : (c : goal.After-clipped) → read c.args.range.most ≡ c.args.range.most
+most_read c = back (fits_abs w32 c.args.range.most (omega (arith, c.args.range.near.to)))
+
 -- what is clipped, and the clip's upper end
-above : (s : goal.Start)
-    → let a = s.args in
-    read (read a.x +ℤ read (shr_z (read (read (pos 512 -ℤ read (pos 1024 *ℤ read a.least)) -ℤ read a.sum)) 1024))
-    ≡ a.x +ℤ whole_divided (pos 512 -ℤ pos 1024 *ℤ a.least -ℤ a.sum) 1024
-above s =
-    back (overflow_add-above s) ∙ (λ i. back s.ranges.x i +ℤ shifted w32 1024 (overflow_sub-above-2 s) sum i)
+above : (c : goal.After-clipped)
+    → let a = c.args in
+    read (read a.x +ℤ read (shr_z (read (read (pos 512 -ℤ read (pos 1024 *ℤ read a.range.least)) -ℤ read a.sum)) 1024))
+    ≡ a.x +ℤ whole_divided (pos 512 -ℤ pos 1024 *ℤ a.range.least -ℤ a.sum) 1024
+above c =
+    back (overflow_add-above c.before) ∙ (λ i. back c.ranges.x i +ℤ shifted w32 1024 (overflow_sub-above-2 c.before) sum i)
   where
-    times : read (pos 1024 *ℤ read s.args.least) ≡ pos 1024 *ℤ s.args.least
-    times = back (overflow_mul-above s) ∙ (λ i. pos 1024 *ℤ back s.ranges.least i)
+    times : read (pos 1024 *ℤ read c.args.range.least) ≡ pos 1024 *ℤ c.args.range.least
+    times = back (overflow_mul-above c.before) ∙ (λ i. pos 1024 *ℤ least_read c i)
 
-    sum : read (pos 512 -ℤ read (pos 1024 *ℤ read s.args.least)) -ℤ read s.args.sum ≡ pos 512 -ℤ pos 1024 *ℤ s.args.least -ℤ s.args.sum
-    sum = λ i. (back (overflow_sub-above s) ∙ (λ j. pos 512 -ℤ times j)) i -ℤ back s.ranges.sum i
+    sum : read (pos 512 -ℤ read (pos 1024 *ℤ read c.args.range.least)) -ℤ read c.args.sum ≡ pos 512 -ℤ pos 1024 *ℤ c.args.range.least -ℤ c.args.sum
+    sum = λ i. (back (overflow_sub-above c.before) ∙ (λ j. pos 512 -ℤ times j)) i -ℤ back c.ranges.sum i
 
-span : (s : goal.Start) → read (read s.args.most -ℤ read s.args.least) ≡ s.args.most -ℤ s.args.least
-span s = back (overflow_sub-most s) ∙ (λ i. back s.ranges.most i -ℤ back s.ranges.least i)
+span : (c : goal.After-clipped) → read (read c.args.range.most -ℤ read c.args.range.least) ≡ c.args.range.most -ℤ c.args.range.least
+span c = back (overflow_sub-most c.before) ∙ (λ i. most_read c i -ℤ least_read c i)
 
 -- and what comes of them
 clip : (c : goal.After-clipped)
     → let a = c.args in
-    read c.clipped.result ≡ clamp (pos 0) (a.most -ℤ a.least) (a.x +ℤ whole_divided (pos 512 -ℤ pos 1024 *ℤ a.least -ℤ a.sum) 1024)
-clip c = read_is w32 c.clipped.type_inv (c.clipped.ensures ∙ (λ i. clamp (pos 0) (span c.before i) (above c.before i)))
+    read c.clipped.result ≡ clamp (pos 0) (a.range.most -ℤ a.range.least) (a.x +ℤ whole_divided (pos 512 -ℤ pos 1024 *ℤ a.range.least -ℤ a.sum) 1024)
+clip c = read_is w32 c.clipped.type_inv (c.clipped.ensures ∙ (λ i. clamp (pos 0) (span c i) (above c i)))
 
 pub overflow_add-result : goal.overflow_add-result
 overflow_add-result c =
     let a = c.args in
-    let ends = c.requires.2 in
-    let b : nat_abs (read c.clipped.result) ≤ 262140 = subst (λ (z : ℤ). nat_abs z ≤ 262140) (sym (clip c)) (clamp_bound (pos 0) (a.most -ℤ a.least) (omega arith) (omega (arith, abs_sub a.most a.least, ends.from, ends.to)) _) in
+    let ends = a.range.near in
+    let b : nat_abs (read c.clipped.result) ≤ 262140 = subst (λ (z : ℤ). nat_abs z ≤ 262140) (sym (clip c)) (clamp_bound (pos 0) (a.range.most -ℤ a.range.least) (omega arith) (omega (arith, abs_sub a.range.most a.range.least, ends.from, ends.to)) _) in
     fits (search bounds depth 14) tt
 
 pub returns : goal.returns
 returns c =
     let a = c.args in
-    back (overflow_add-result c) ∙ (λ i. clip c i +ℤ back c.ranges.least i) ∙ rescaled_from_least a.least a.most a.x a.sum
+    back (overflow_add-result c) ∙ (λ i. clip c i +ℤ least_read (goal.at.returns c).After-clipped i) ∙ rescaled_from_least a.range.least a.range.most a.x a.sum

@@ -18,22 +18,22 @@ pub unwrap-requires : goal.unwrap-requires
 unfolding ceiling_of
 unwrap-requires c =
     let t = (goal.at.unwrap-requires c).Start in
-    answered_ok c.estimate.ensures.answer (estimate_accepts (Given t) c.args.given (Before t) c.requires)
+    answered_ok c.estimate.ensures.answer (estimate_accepts (Given t) c.args.settings (Before t) c.requires)
 
 pub unwrap-requires-2 : goal.unwrap-requires-2
 unfolding ceiling_of
 unwrap-requires-2 c =
     let t = (goal.at.unwrap-requires-2 c).Start in
-    answered_ok c.update.ensures.answer (update_asked (Given t) c.args.given (Before t) c.requires c.estimate.ensures)
+    answered_ok c.update.ensures.answer (update_asked (Given t) c.args.settings (Before t) c.requires c.estimate.ensures)
 
 pub unwrap-requires-3 : goal.unwrap-requires-3
 unfolding ceiling_of
 unwrap-requires-3 c =
     let t = (goal.at.unwrap-requires-3 c).Start in
-    answered_ok c.rounds.ensures.answer (rounds_asked (Given t) c.args.given (Before t) c.requires c.estimate.ensures c.update.ensures)
+    answered_ok c.rounds.ensures.answer (rounds_asked (Given t) c.args.settings (Before t) c.requires c.estimate.ensures c.update.ensures)
 
 pub returns : goal.returns
 unfolding ceiling_of
 returns c =
     let t = (goal.at.returns c).Start in
-    parts_leave (Given t) c.args.given (Before t) c.requires c.estimate.ensures c.update.ensures c.rounds.ensures
+    parts_leave (Given t) c.args.settings (Before t) c.requires c.estimate.ensures c.update.ensures c.rounds.ensures

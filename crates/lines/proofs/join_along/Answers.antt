@@ -5,6 +5,7 @@ use native.Mathlib.Omega.{arith}
 use lib.IntN.{◌+ℤ◌}
 use lib.ListN.{length}
 use borrow.Author.Rules.{rules}
+use Rattle.integers.specs.Lists.{overwrite}
 use Rattle.integers.proofs.Lists.{overwrite_cong}
 use Rattle.filters.specs.Bank.{low_join, high_join}
 use Rattle.lines.specs.Lines.{joined}
@@ -32,4 +33,4 @@ returns c =
     let p = c.requires.le_n in
     let e = c.pad_line.ensures in
     let f = c.pad_line-2.ensures in
-    record { low_after = (e, f); out_after = c.join_lines.ensures ∙ overwrite_cong a.out.now a.at a.n _ _ (λ k i. λ m. five-along 1 p.0 refl a.low.now (fit_low (goal.at.returns c).Start) e low_join k i m +ℤ five-along 1 p.0 refl a.high.now (fit_high (goal.at.returns c).Start) f high_join k i m) }
+    record { low_after = (e, f); out_after = c.join_lines.ensures ∙ (λ m. overwrite a.out.now a.at a.n (joined c.pad_line.new.line c.pad_line-2.new.line (c.spaced.ensures m))) ∙ overwrite_cong a.out.now a.at a.n _ _ (λ k i. λ m. five-along 1 p.0 refl a.low.now (fit_low (goal.at.returns c).Start) e low_join k i m +ℤ five-along 1 p.0 refl a.high.now (fit_high (goal.at.returns c).Start) f high_join k i m) }

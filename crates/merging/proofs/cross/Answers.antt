@@ -7,10 +7,11 @@ use native.Mathlib.Omega.{arith}
 use lib.IntN.{ℤ, nat_abs}
 use mir.Syntax.{w32}
 use mir.Val.{to_z, of_z}
+use borrow.Author.Rules.{rules}
 use Rattle.integers.proofs.Lists.{overwrite_none, overwrite_step}
 use Rattle.integers.proofs.Bounds.{read_is, abs_read}
 use Rattle.planes.specs.Lists.{value}
-use Rattle.filters.specs.Bank.{weighted, high_join}
+use Rattle.filters.specs.Bank.{Small, weighted, high_join}
 use Rattle.lines.specs.Lines.{Run}
 use Rattle.lines.proofs.Lines.{read_small}
 use Rattle.merging.proofs.Merging.{part_is}
@@ -37,17 +38,25 @@ module _ (g : Over) (c : goal.At-loop-k g) where
   taken : {l : List ℤ} {o : ℕ} → c.loop-k.k < c.args.n → Run 805306368 l o c.args.n → nat_abs (to_z w32 (of_z w32 (value l (o + c.loop-k.k)))) ≤ 805306368
   taken i r = read_small 805306368 (omega arith) r c.loop-k.k i
 
+  -- and its part is small
+  part_small : (v : ℤ) {z : ℤ} → goal.F-post g c.args.part z v → nat_abs z ≤ 805306368 → Small (to_z w32 (of_z w32 v))
+  part_small v {z} e h = le_trans (abs_read w32 v) (c.requires.small z v h e)
+
 pub high_join-requires : goal.high_join-requires
 high_join-requires g c =
     let l = (goal.at.high_join-requires g c).At-loop-k in
     let i = c.loop-k-test.true in
     let r = c.requires.crossing.0 in
-    let small = c.requires.small in (
-      le_trans (abs_read w32 c.part.result) (small _ _ (taken g l i r.first) c.part.ensures),
-      le_trans (abs_read w32 c.part-in-loop-k.result) (small _ _ (taken g l i r.second) c.part-in-loop-k.ensures),
-      le_trans (abs_read w32 c.part-in-loop-k-2.result) (small _ _ (taken g l i r.third) c.part-in-loop-k-2.ensures),
-      le_trans (abs_read w32 c.part-in-loop-k-3.result) (small _ _ (taken g l i r.fourth) c.part-in-loop-k-3.ensures),
-      le_trans (abs_read w32 c.part-in-loop-k-4.result) (small _ _ (taken g l i r.fifth) c.part-in-loop-k-4.ensures),
+    let first = taken g l i r.first in
+    let second = taken g l i r.second in
+    let third = taken g l i r.third in
+    let fourth = taken g l i r.fourth in
+    let fifth = taken g l i r.fifth in (
+      part_small g l c.part.result c.part.ensures (search rules),
+      part_small g l c.part-in-loop-k.result c.part-in-loop-k.ensures (search rules),
+      part_small g l c.part-in-loop-k-2.result c.part-in-loop-k-2.ensures (search rules),
+      part_small g l c.part-in-loop-k-3.result c.part-in-loop-k-3.ensures (search rules),
+      part_small g l c.part-in-loop-k-4.result c.part-in-loop-k-4.ensures (search rules),
     )
 
 pub loop-k-preserved : goal.loop-k-preserved

@@ -20,4 +20,4 @@ pub returns : goal.returns
 returns c =
     let a = c.args in
     let e = c.pad_line.ensures in
-    record { whole_after = (e, c.pad_line-2.ensures); apart_after = away_laid c.requires.le_n.0 a.whole.now c.requires.le_n.2 e a.apart1.now a.from a.apart.now a.at c.add_low.ensures.apart_after; together_after = added_laid c.requires.le_n.0 a.whole.now c.requires.le_n.2 e a.together1.now a.from a.together.now a.at c.add_low.ensures.together_after; out_after = low_laid c.requires.le_n.0 a.rest.now c.requires.le_n.3 c.pad_line-2.ensures a.out.now a.at c.join_low.ensures }
+    record { whole_after = (e, c.pad_line-2.ensures); apart_after = away_laid c.requires.le_n.0 a.whole.now c.requires.le_n.2 e a.apart1.now a.from a.apart.now a.at c.add_low.ensures.apart_after; together_after = added_laid c.requires.le_n.0 a.whole.now c.requires.le_n.2 e a.together1.now a.from a.together.now a.at c.add_low.ensures.together_after; out_after = low_laid c.requires.le_n.0 a.rest.now c.requires.le_n.3 c.pad_line-2.ensures c.spaced.ensures a.out.now a.at c.join_low.ensures }

@@ -21,7 +21,7 @@ use Rattle.rings.proofs.Planes.{difference_ready, difference_next}
 use Rattle.two_level_rows.specs.TwoLevels.{with_projected}
 use Rattle.two_level_rows.proofs.Sweep.{first_level, start, D, Band, A1, B1, A2, B2, A, B, R, P, Sides, first_sound, second_sound, first_ready, apart1_next, together1_next, band_ready, band_next, second_ready, apart2_next, together2_next, merged_ready, merged_apart_next, merged_together_next, rests_next, settled_ready, settled_next, all_projected}
 use Rattle.two_level_rows.proofs.project_rows.Goals as goal
-use Rattle.two_level_rows.proofs.project_rows.Goals.{After-band_stage, After-difference_stage, After-merged_stage, After-parts_stage, After-parts_stage-in-loop-t, At-loop-t}
+use Rattle.two_level_rows.proofs.project_rows.Goals.{After-band_stage, After-difference_stage, After-merged_stage, After-parts_stage, After-parts_stage-in-loop-t}
 
 -- a length that is kept still has room
 as_long : {m x y : ℕ} → x ≡ y → m ≤ y → m ≤ x
@@ -48,15 +48,11 @@ pub loop-t-init : goal.loop-t-init
 loop-t-init c = let a = c.args in start (sides a.given a.second_limit a.least a.most a.own.now a.guide.now) (record { differences = a.differences.now; band = a.band.now; apart1 = a.apart1.now; together1 = a.together1.now; apart2 = a.apart2.now; together2 = a.together2.now; apart = a.apart.now; together = a.together.now; rests = a.rests.now })
 
 -- ---- a step
--- it is not too far down
-step : (l : goal.At-loop-t) → l.loop-t.t ≤ 4096
-step l = omega (arith, l.requires.projectable.0.sizes.height_to)
-
 pub difference_stage-requires : goal.difference_stage-requires
 difference_stage-requires c =
     let a = c.args in
     let p = c.requires.projectable.0 in
-    record { sizes = (p.sizes, step (goal.at.difference_stage-requires c).At-loop-t, as_long c.loop-t.auto.differences c.requires.width_in_bounds.0); run = difference_ready a.given a.own.now (P (sides a.given a.second_limit a.least a.most a.own.now a.guide.now)) a.guide.now p 9 c.loop-t.t c.loop-t.invariant.plane }
+    record { sizes = (p.sizes, as_long c.loop-t.auto.differences c.requires.width_in_bounds.0); run = difference_ready a.given a.own.now (P (sides a.given a.second_limit a.least a.most a.own.now a.guide.now)) a.guide.now p 9 c.loop-t.t c.loop-t.invariant.plane }
 
 -- the ring of differences after its stage
 module _ (d : goal.After-difference_stage) where
@@ -89,7 +85,7 @@ parts_stage-requires c =
     let r = c.requires.width_in_bounds in
     let z = c.requires.width_in_bounds_3 in
     record {
-      sizes = (p.sizes, step (goal.at.parts_stage-requires c).At-loop-t, subst Sound e (first_sound (sd d) p far));
+      sizes = (p.sizes, subst Sound e (first_sound (sd d) p far));
       ring_rows = λ i. subst (λ (x : Level). RingRows g x (ring d) (reached 1 g.height c.loop-t.t)) e (first_ready (sd d) p far c.loop-t.t (ring_held d) (ring_room d) i);
       width_in_bounds = (as_long l.low z.0, as_long l.high z.1, as_long l.parts z.2, as_long l.minus z.3, as_long l.plus z.4);
       width_in_bounds_2 = (as_long l.apart1 r.2, as_long l.together1 r.3);
@@ -143,7 +139,7 @@ band_stage-requires c =
     let q = (goal.at.band_stage-requires c).After-parts_stage in
     let d = (goal.at.band_stage-requires c).After-difference_stage in
     let p = c.requires.projectable.0 in
-    record { sizes = (p.sizes, step (goal.at.band_stage-requires c).At-loop-t, as_long c.loop-t.auto.band c.requires.width_in_bounds.1); triple = band_ready (sq q) p (distance c.ranges.second_limit c.requires.projectable.1) c.loop-t.t (ring_held d) (ring_room d) c.loop-t.low (as_long c.loop-t.auto.low c.requires.width_in_bounds_3.0) (line_is q) }
+    record { sizes = (p.sizes, as_long c.loop-t.auto.band c.requires.width_in_bounds.1); triple = band_ready (sq q) p (distance c.ranges.second_limit c.requires.projectable.1) c.loop-t.t (ring_held d) (ring_room d) c.loop-t.low (as_long c.loop-t.auto.low c.requires.width_in_bounds_3.0) (line_is q) }
 
 -- the ring of band 1 after its stage
 module _ (n : goal.After-band_stage) where
@@ -181,7 +177,7 @@ parts_stage-requires-in-loop-t c =
     let r = c.requires.width_in_bounds in
     let z = c.requires.width_in_bounds_3 in
     record {
-      sizes = (p.sizes, step (goal.at.parts_stage-requires-in-loop-t c).At-loop-t, second_sound (sn n) p far);
+      sizes = (p.sizes, second_sound (sn n) p far);
       ring_rows = second_ready (sn n) p far c.loop-t.t (bands_held n (ring_held d) (ring_room d) (line_is q)) (band_room n);
       width_in_bounds = (low_room q, high_room q, as_long (m.parts ∙ l.parts) z.2, as_long (m.minus ∙ l.minus) z.3, as_long (m.plus ∙ l.plus) z.4);
       width_in_bounds_2 = (as_long l.apart2 r.4, as_long l.together2 r.5);
@@ -229,7 +225,7 @@ merged_stage-requires c =
     let l = c.loop-t.auto in
     let k = c.parts_stage-in-loop-t.auto in
     let z = c.requires.width_in_bounds_2 in
-    record { sizes = (p.sizes, step (goal.at.merged_stage-requires c).At-loop-t); crossing = merged_ready (su u) p (distance c.ranges.second_limit c.requires.projectable.1) c.loop-t.t a2 b2 a1 b1 r2.0 r2.1 r1.0 r1.1; width_in_bounds = (as_long k.low (low_room q), as_long k.high (high_room q)); width_in_bounds_2 = (as_long l.apart z.0, as_long l.together z.1, as_long l.rests z.2) }
+    record { sizes = p.sizes; crossing = merged_ready (su u) p (distance c.ranges.second_limit c.requires.projectable.1) c.loop-t.t a2 b2 a1 b1 r2.0 r2.1 r1.0 r1.1; width_in_bounds = (as_long k.low (low_room q), as_long k.high (high_room q)); width_in_bounds_2 = (as_long l.apart z.0, as_long l.together z.1, as_long l.rests z.2) }
 
 -- the merged rings before their stage and after it
 module _ (m : goal.After-merged_stage) where
@@ -276,7 +272,7 @@ settled_stage-requires c =
     let m = (goal.at.settled_stage-requires c).After-merged_stage in
     let p = c.requires.projectable.0 in
     let r = merged_room m in
-    record { sizes = (p.sizes, step (goal.at.settled_stage-requires c).At-loop-t, as_long c.merged_stage.auto.whole (as_long c.parts_stage-in-loop-t.auto.low (low_room q))); run = settled_ready (sm m) p (distance c.ranges.second_limit c.requires.projectable.1) c.loop-t.t c.loop-t.invariant.plane (aparts_held m a2 b2 a1) (togethers_held m a2 b2 b1) (rests_held m a2 b2) r.0 r.1 r.2 }
+    record { sizes = (p.sizes, as_long c.merged_stage.auto.whole (as_long c.parts_stage-in-loop-t.auto.low (low_room q))); run = settled_ready (sm m) p (distance c.ranges.second_limit c.requires.projectable.1) c.loop-t.t c.loop-t.invariant.plane (aparts_held m a2 b2 a1) (togethers_held m a2 b2 b1) (rests_held m a2 b2) r.0 r.1 r.2 }
 
 pub loop-t-preserved : goal.loop-t-preserved
 loop-t-preserved c =

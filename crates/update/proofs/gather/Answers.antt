@@ -14,25 +14,25 @@ use Rattle.update.proofs.gather.Goals.{In-loop-i, Start}
 
 -- what is laid down
 abbrev Plane : goal.Start → ℕ → ℕ → ℤ
-Plane s = let a = s.args in λ i j. sample a.green.now (a.from + i * a.down + 2 * j)
+Plane s = let a = s.args in λ i j. sample a.green.now (a.places.from + i * a.places.down + 2 * j)
 
 pub loop-i-init : goal.loop-i-init
-loop-i-init c = let a = c.args in overwrite_no_row a.work.now 0 a.columns _
+loop-i-init c = let a = c.args in overwrite_no_row a.work.now 0 a.places.columns _
 
 -- row i has its place in the work buffer, and its samples are in the list
 room : (c : goal.In-loop-i)
-    → c.loop-i.i * c.args.columns + c.args.columns ≤ length c.args.work.now
-room c = omega (arith, row_room c.args.columns c.args.rows c.loop-i.i c.loop-i-test.true, c.requires.1)
+    → c.loop-i.i * c.args.places.columns + c.args.places.columns ≤ length c.args.work.now
+room c = omega (arith, row_room c.args.places.columns c.args.places.rows c.loop-i.i c.loop-i-test.true, c.requires.1)
 
 reach : (c : goal.In-loop-i) (k : ℕ)
-    → k < c.args.columns → c.args.from + c.loop-i.i * c.args.down + k * 2 < length c.args.green.now
+    → k < c.args.places.columns → c.args.places.from + c.loop-i.i * c.args.places.down + k * 2 < length c.args.green.now
 reach c k b = c.requires.0.inside c.loop-i.i k c.loop-i-test.true b
 
 pub overflow_mul-i : goal.overflow_mul-i
-overflow_mul-i c = let r = reach c 0 c.requires.0.some in record { fits = omega arith }
+overflow_mul-i c = let r = reach (goal.at.overflow_mul-i c).In-loop-i 0 c.requires.0.some in record { fits = omega arith }
 
-pub overflow_add-from : goal.overflow_add-from
-overflow_add-from c = let r = reach c 0 c.requires.0.some in record { fits = omega arith }
+pub overflow_add-places : goal.overflow_add-places
+overflow_add-places c = let r = reach (goal.at.overflow_add-places c).In-loop-i 0 c.requires.0.some in record { fits = omega arith }
 
 pub gather_row-requires : goal.gather_row-requires
 gather_row-requires c =
@@ -43,11 +43,11 @@ pub loop-i-preserved : goal.loop-i-preserved
 loop-i-preserved c =
     let s = (goal.at.loop-i-preserved c).Start in
     let a = c.args in
-    overwrite-row a.work.now 0 a.columns c.loop-i.i (Plane s) (Plane s c.loop-i.i) (c.loop-i.i * a.columns) c.gather_row.ensures (omega arith) (omega (arith, room (goal.at.loop-i-preserved c).In-loop-i)) c.loop-i.invariant (λ j b. refl)
+    overwrite-row a.work.now 0 a.places.columns c.loop-i.i (Plane s) (Plane s c.loop-i.i) (c.loop-i.i * a.places.columns) c.gather_row.ensures (omega arith) (omega (arith, room (goal.at.loop-i-preserved c).In-loop-i)) c.loop-i.invariant (λ j b. refl)
 
 pub returns : goal.returns
 unfolding place
 returns c =
     let a = c.args in
-    let all : c.loop-i.i * a.columns ≡ a.columns * a.rows = ap (λ (n : ℕ). n * a.columns) (let e : c.loop-i.i ≡ a.rows = omega arith in e) ∙ mul_comm a.rows a.columns in
-    c.loop-i.invariant ∙ ap (λ (n : ℕ). overwrite a.work.now 0 n (λ k. Plane (goal.at.returns c).Start (k / a.columns) (k % a.columns))) all
+    let all : c.loop-i.i * a.places.columns ≡ a.places.columns * a.places.rows = ap (λ (n : ℕ). n * a.places.columns) (let e : c.loop-i.i ≡ a.places.rows = omega arith in e) ∙ mul_comm a.places.rows a.places.columns in
+    c.loop-i.invariant ∙ ap (λ (n : ℕ). overwrite a.work.now 0 n (λ k. Plane (goal.at.returns c).Start (k / a.places.columns) (k % a.places.columns))) all

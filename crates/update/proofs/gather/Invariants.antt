@@ -6,4 +6,4 @@ use Rattle.planes.specs.Lists.{sample}
 use Rattle.update.proofs.gather.Given as goal
 
 abbrev pub invariant-loop-i : goal.invariant-loop-i
-invariant-loop-i l = l.work ≡ overwrite l.initial.work 0 (l.i * l.columns) (λ k. sample l.green (l.from + k / l.columns * l.down + 2 * (k % l.columns)))
+invariant-loop-i l = l.work ≡ overwrite l.initial.work 0 (l.i * l.places.columns) (λ k. sample l.green (l.places.from + k / l.places.columns * l.places.down + 2 * (k % l.places.columns)))

@@ -7,4 +7,4 @@ use Rattle.planes.specs.Places.{place}
 use Rattle.update.proofs.scatter.Given as goal
 
 abbrev pub invariant-loop-i : goal.invariant-loop-i
-invariant-loop-i l = l.green ≡ put l.initial.green (l.i * l.columns) (place l.from l.down l.columns) (λ k. nat_abs (value l.work k))
+invariant-loop-i l = l.green ≡ put l.initial.green (l.i * l.places.columns) (place l.places.from l.places.down l.places.columns) (λ k. nat_abs (value l.work k))

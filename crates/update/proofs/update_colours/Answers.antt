@@ -1,17 +1,16 @@
 -- `update::update_colours` meets its contract: blue places, then red places, whose green was not touched; and all zeroed.
 use native.Mathlib.Omega.{arith}
-use Rattle.planes.specs.Layout.{red_row, red_column}
+use mathlib.Core.Path.{◌∙◌}
 use Rattle.work_buffer.specs.Buffer.{zeroed}
 use Rattle.work_buffer.proofs.Buffer.{filled}
 use Rattle.update.proofs.Calls.{both_colours, work_zeroed}
 use Rattle.update.proofs.update_colours.Goals as goal
 
 pub returns-clause-green_after : goal.returns-clause-green_after
-unfolding red_row red_column
 returns-clause-green_after c =
     let a = c.args in
-    let blue = rw (c.from-red_row.ensures, c.from-red_column.ensures) at c.update_places.ensures.green_after in
-    let red = rw (c.from-red_row.ensures, c.from-red_column.ensures) at c.update_places-2.ensures.green_after in
+    let blue = rw (c.from-red_row.ensures ∙ c.red_row.ensures.0, c.from-red_column.ensures ∙ c.red_column.ensures.0) at c.update_places.ensures.green_after in
+    let red = rw (c.from-red_row.ensures ∙ c.red_row.ensures.0, c.from-red_column.ensures ∙ c.red_column.ensures.0) at c.update_places-2.ensures.green_after in
     both_colours _ a.shape.width a.shape.height a.shape.layout a.mosaic.now a.green.now blue red
 
 pub returns-clause-work_after : goal.returns-clause-work_after

@@ -1,66 +1,68 @@
 -- `update::update_places` meets its contract: green at the places is gathered, projected on the colour, and put back.
-use mathlib.Core.Path.{◌≡◌, ◌∙◌, subst, sym}
+use mathlib.Core.Path.{◌≡◌, refl, subst, sym}
 use mathlib.Core.List.{List}
 use Prim.Native.Nat.{ℕ, ◌+◌, ◌*◌, ◌≤◌}
 use native.Mathlib.Omega.{arith}
-use lib.IntN.{ℤ, pos, nat_abs}
+use lib.ListN.{length}
 use mir.Syntax.{w32}
-use Rattle.integers.proofs.Bounds.{bounds, read_is}
+use Rattle.integers.proofs.Bounds.{read_is}
 use Rattle.planes.specs.Places.{half}
-use Rattle.planes.proofs.Places.{few_places, small_rows}
-use Rattle.filters.proofs.Quotients.{ends}
-use Rattle.sweep.specs.Sweep.{with_projected}
+use Rattle.planes.specs.Lists.{InPlane}
+use Rattle.planes.proofs.Places.{few_places}
 use Rattle.work_buffer.specs.Buffer.{Workable}
+use Rattle.work_buffer.specs.declared.Places.{Places}
+use Rattle.work_buffer.proofs.Buffer.{places_inside}
 use Rattle.update.specs.Places.{with_mixed}
-use Rattle.update.proofs.Places.{given, projectable, mixed_laid, mixed_narrow, green_laid}
+use Rattle.update.proofs.Places.{projectable, mixed_laid, mixed_narrow, green_laid}
 use Rattle.update.proofs.update_places.Goals as goal
-use Rattle.update.proofs.update_places.Goals.{After-project}
+use Rattle.update.proofs.update_places.Goals.{After-of-places, After-project}
 
 -- the small plane has room in the work buffer
 room : {w h n : ℕ} {mosaic green : List ℕ} (a b : ℕ) → Workable w h mosaic green n → half w b * half h a ≤ n
 room {w} {h} a b u = omega (arith, few_places w h a b (omega (arith, u.sizes.width_from)) (omega (arith, u.sizes.height_from)), u.work)
 
-pub gather-requires : goal.gather-requires
-unfolding half
-gather-requires c =
+-- the first place and how far apart the rows stand
+from_is : (c : goal.After-of-places) → c.of-places.result.from ≡ c.args.row * c.args.width + c.args.column
+from_is c = λ i. (c.of-places.ensures i).from
+
+down_is : (c : goal.After-of-places) → c.of-places.result.down ≡ 2 * c.args.width
+down_is c = λ i. (c.of-places.ensures i).down
+
+-- the places lie in green
+inside : (c : goal.After-of-places) → let p = c.of-places.result in InPlane c.args.green.now p.from p.columns p.rows p.down 2
+inside c =
     let a = c.args in
     let u = c.requires.0 in
-    (small_rows a.width a.height a.a a.b c.requires.1 c.requires.2 a.green.now u.greens u.sizes.width_from _ _ (omega arith) (omega arith), room a.a a.b u)
+    let e = c.of-places.ensures in
+    places_inside a.width a.height a.row a.column c.requires.1 c.requires.2 a.green.now u.greens u.sizes.width_from (omega (arith, from_is c)) (omega (arith, down_is c)) (λ i. (e i).columns) (λ i. (e i).rows)
 
--- the ceiling, as the machine reads it
-small : {top : ℕ} {most : ℤ} → most ≡ pos top → top ≤ 65535 → nat_abs most ≤ 65535
-small e few = subst (λ (z : ℤ). nat_abs z ≤ 65535) (sym e) few
+pub gather-requires : goal.gather-requires
+gather-requires c =
+    let a = c.args in
+    (inside (goal.at.gather-requires c).After-of-places, subst (λ (p : Places). p.columns * p.rows ≤ length a.work.now) (sym c.of-places.ensures) (room a.row a.column c.requires.0))
 
 pub project-requires : goal.project-requires
-unfolding half
 project-requires c =
     let a = c.args in
-    let top = small (read_is w32 c.from-most.type_inv c.from-most.ensures) (omega arith) in (
-      projectable a.width a.height a.a a.b c.requires.1 c.requires.2 a.mosaic.now a.green.now a.work.now (room a.a a.b c.requires.0) c.gather.ensures c.requires.0 (λ i. omega (arith, c.type_inv.mosaic i)) (λ i. omega (arith, c.slice_known-1.given i)) _ _ _ _ (omega arith) (omega arith) (omega arith) (record { sign = tt; small = omega arith }),
-      ends (search bounds depth 4) (search bounds depth 4) tt tt,
-    )
+    let s = (goal.at.project-requires c).After-of-places in
+    projectable a.width a.height a.row a.column c.requires.1 c.requires.2 a.mosaic.now a.green.now a.work.now (room a.row a.column c.requires.0) c.of-places.ensures c.gather.ensures c.requires.0 (λ i. omega (arith, c.type_inv.mosaic i)) (λ i. omega (arith, c.slice_known-1.given i)) _ _ _ _ (omega (arith, from_is s)) (omega (arith, down_is s)) (omega arith) (record { sign = tt; small = omega arith })
 
 -- what the projection leaves
-mixed : (p : goal.After-project) → let a = p.args in p.project.new.own ≡ with_mixed a.top a.width a.height a.a a.b a.mosaic.now a.green.now a.work.now
-unfolding half
+mixed : (p : goal.After-project) → let a = p.args in p.project.new.own ≡ with_mixed a.top a.width a.height a.row a.column a.mosaic.now a.green.now a.work.now
 mixed p =
     let a = p.args in
-    let most = read_is w32 p.from-most.type_inv p.from-most.ensures in
-    mixed_laid a.width a.height a.a a.b p.requires.1 p.requires.2 a.mosaic.now a.green.now a.work.now (room a.a a.b p.requires.0) p.gather.ensures a.top
-    (p.project.ensures ∙ (λ j. with_projected (given a.width a.height a.a a.b p.requires.1 p.requires.2 (a.a * a.width + a.b) (2 * a.width) 2 (pos 0)) (pos 0) (most j) p.gather.new.work a.mosaic.now))
+    mixed_laid a.width a.height a.row a.column p.requires.1 p.requires.2 a.mosaic.now a.green.now a.work.now (room a.row a.column p.requires.0) p.of-places.ensures p.gather.ensures a.top refl refl (read_is w32 p.from-most.type_inv p.from-most.ensures) p.project.ensures
 
 pub scatter-requires : goal.scatter-requires
-unfolding half
 scatter-requires c =
     let a = c.args in
     let u = c.requires.0 in (
-      mixed_narrow a.width a.height a.a a.b c.requires.1 c.requires.2 a.mosaic.now a.green.now a.work.now (room a.a a.b u) a.top (mixed (goal.at.scatter-requires c).After-project) (omega arith),
-      small_rows a.width a.height a.a a.b c.requires.1 c.requires.2 a.green.now u.greens u.sizes.width_from _ _ (omega arith) (omega arith),
+      mixed_narrow a.width a.height a.row a.column c.requires.1 c.requires.2 a.mosaic.now a.green.now a.work.now (room a.row a.column u) a.top c.of-places.ensures (mixed (goal.at.scatter-requires c).After-project) (omega arith),
+      inside (goal.at.scatter-requires c).After-of-places,
     )
 
 pub returns : goal.returns
-unfolding half
 returns c =
     let a = c.args in
     let u = c.requires.0 in
-    record { green_after = green_laid a.width a.height a.a a.b c.requires.1 c.requires.2 a.mosaic.now a.green.now a.work.now (room a.a a.b u) a.top (mixed (goal.at.returns c).After-project) u.greens c.scatter.ensures; work_after = mixed (goal.at.returns c).After-project }
+    record { green_after = green_laid a.width a.height a.row a.column c.requires.1 c.requires.2 a.mosaic.now a.green.now a.work.now (room a.row a.column u) a.top c.of-places.ensures (mixed (goal.at.returns c).After-project) u.greens c.scatter.ensures; work_after = mixed (goal.at.returns c).After-project }

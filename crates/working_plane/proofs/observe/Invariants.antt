@@ -6,4 +6,4 @@ use Rattle.planes.specs.Lists.{sample, put}
 use Rattle.working_plane.proofs.observe.Given as goal
 
 abbrev pub invariant-loop-i : goal.invariant-loop-i
-invariant-loop-i l = l.work ≡ put l.initial.work (l.i * l.columns) (place l.from l.down l.columns) (λ k. sample l.mosaic (place l.from l.down l.columns k))
+invariant-loop-i l = l.work ≡ put l.initial.work (l.i * l.places.columns) (place l.places.from l.places.down l.places.columns) (λ k. sample l.mosaic (place l.places.from l.places.down l.places.columns k))

@@ -9,10 +9,10 @@ pub run-requires : goal.run-requires
 run-requires g c =
     let a = c.args in
     let room : a.colour.width * a.colour.height ≤ length a.work.now = omega (arith, c.requires.0.work) in (
-      first_workable g.L.Level.two a.colour a.top a.mosaic.now a.green.now a.plane.now a.work.now room c.requires.3 c.load.ensures c.requires.0,
+      first_workable g.D.Depth.two a.colour a.top a.mosaic.now a.green.now a.plane.now a.work.now room c.requires.3 c.load.ensures c.requires.0,
       c.requires.1,
       c.requires.2,
-      first-kept g.L.Level.two a.colour a.top a.mosaic.now a.green.now a.plane.now a.work.now room c.requires.3 c.load.ensures (λ k. omega (arith, c.slice_known-1.given k)),
+      first-kept g.D.Depth.two a.colour a.top a.mosaic.now a.green.now a.plane.now a.work.now room c.requires.3 c.load.ensures (λ k. omega (arith, c.slice_known-1.given k)),
     )
 
 pub returns : goal.returns
@@ -20,6 +20,6 @@ returns g c =
     let a = c.args in
     let room : a.colour.width * a.colour.height ≤ length a.work.now = omega (arith, c.requires.0.work) in
     record {
-      plane_after = unloaded g.L.Level.two a.colour a.top a.mosaic.now a.green.now a.plane.now a.work.now room c.requires.3 c.load.ensures _ c.run.ensures c.unload.ensures;
-      work_unchanged = scratched g.L.Level.two a.colour a.top a.mosaic.now a.green.now a.plane.now a.work.now room c.requires.3 c.load.ensures _ c.run.ensures c.requires.0.work;
+      plane_after = unloaded g.D.Depth.two a.colour a.top a.mosaic.now a.green.now a.plane.now a.work.now room c.requires.3 c.load.ensures _ c.run.ensures c.unload.ensures;
+      work_unchanged = scratched g.D.Depth.two a.colour a.top a.mosaic.now a.green.now a.plane.now a.work.now room c.requires.3 c.load.ensures _ c.run.ensures c.requires.0.work;
     }

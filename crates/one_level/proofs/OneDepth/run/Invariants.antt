@@ -1,4 +1,4 @@
--- `OneLevel::run` meets its contract: after n turns, the work buffer holds the working plane after n rounds.
+-- `OneDepth::run` meets its contract: after n turns, the work buffer holds the working plane after n rounds.
 use mathlib.Core.Path.{◌≡◌}
 use mathlib.Core.Bool.{false}
 use lib.IntN.{pos}
@@ -6,7 +6,7 @@ use Rattle.planes.specs.Planes.{plane_of}
 use Rattle.work_buffer.specs.Buffer.{with_plane}
 use Rattle.working_plane.specs.Rounds.{working_plane}
 use Rattle.working_plane.specs.Colours.{round_of}
-use Rattle.one_level.proofs.OneLevel.run.Given as goal
+use Rattle.one_level.proofs.OneDepth.run.Given as goal
 
 abbrev pub invariant-loop-n : goal.invariant-loop-n
 invariant-loop-n l =

@@ -1,4 +1,4 @@
--- `OneLevel::run` meets its contract: after n turns, the work buffer holds the working plane after n rounds.
+-- `OneDepth::run` meets its contract: after n turns, the work buffer holds the working plane after n rounds.
 use mathlib.Core.Path.{◌≡◌, sym, subst}
 use mathlib.Core.Bool.{false}
 use Prim.Native.Nat.{ℕ, ◌*◌, ◌≤◌}
@@ -15,8 +15,8 @@ use Rattle.working_plane.specs.Rounds.{least_kept, most_kept, working_plane}
 use Rattle.working_plane.specs.Colours.{round_of, KeptPlane}
 use Rattle.working_plane.proofs.Working.{colour_projectable, none_laid, more_laid, after_kept}
 use Rattle.one_level.proofs.Projected.{one_laid}
-use Rattle.one_level.proofs.OneLevel.run.Goals as goal
-use Rattle.one_level.proofs.OneLevel.run.Goals.{At-loop-n, Start}
+use Rattle.one_level.proofs.OneDepth.run.Goals as goal
+use Rattle.one_level.proofs.OneDepth.run.Goals.{At-loop-n, Start}
 
 -- the working plane after n rounds
 abbrev After : goal.Start → ℕ → ℕ → ℕ → ℤ
@@ -55,10 +55,13 @@ pub project-requires : goal.project-requires
 project-requires c =
     let l = (goal.at.project-requires c).At-loop-n in
     let a = c.args in
-    let e = ends_small l in (
-      colour_projectable a.colour a.mosaic.now a.green.now c.loop-n.work c.given_of-given.ensures (omega (arith, c.well_formed.0)) (workable l) (plane-kept l) (λ k. omega (arith, c.type_inv.green k)),
-      ends (search bounds depth 4) (search bounds depth 4) tt tt,
-    )
+    colour_projectable a.colour a.mosaic.now a.green.now c.loop-n.work c.given_of-given.ensures (omega (arith, c.well_formed.0)) (workable l) (plane-kept l) (λ k. omega (arith, c.type_inv.green k))
+
+-- they are near to 0
+pub invariant_of-project : goal.invariant_of-project
+invariant_of-project c =
+    let e = ends_small (goal.at.invariant_of-project c).At-loop-n in
+    record { near = ends (search bounds depth 4) (search bounds depth 4) tt tt }
 
 pub loop-n-preserved : goal.loop-n-preserved
 loop-n-preserved c =

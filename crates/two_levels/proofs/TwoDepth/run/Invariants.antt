@@ -1,4 +1,4 @@
--- `TwoLevel::run` meets its contract: after n turns, the work buffer holds the working plane after n rounds.
+-- `TwoDepth::run` meets its contract: after n turns, the work buffer holds the working plane after n rounds.
 use mathlib.Core.Path.{◌≡◌}
 use mathlib.Core.Bool.{true}
 use lib.IntN.{pos}
@@ -6,7 +6,7 @@ use Rattle.planes.specs.Planes.{plane_of}
 use Rattle.work_buffer.specs.Buffer.{with_plane}
 use Rattle.working_plane.specs.Rounds.{working_plane}
 use Rattle.working_plane.specs.Colours.{round_of}
-use Rattle.two_levels.proofs.TwoLevel.run.Given as goal
+use Rattle.two_levels.proofs.TwoDepth.run.Given as goal
 
 abbrev pub invariant-loop-n : goal.invariant-loop-n
 invariant-loop-n l =

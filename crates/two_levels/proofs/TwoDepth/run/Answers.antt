@@ -1,4 +1,4 @@
--- `TwoLevel::run` meets its contract: after n turns, the work buffer holds the working plane after n rounds.
+-- `TwoDepth::run` meets its contract: after n turns, the work buffer holds the working plane after n rounds.
 use mathlib.Core.Path.{◌≡◌, sym, ◌∙◌, ap, subst}
 use mathlib.Core.Bool.{true}
 use Prim.Native.Nat.{ℕ, ◌*◌, ◌≤◌}
@@ -19,8 +19,8 @@ use Rattle.working_plane.specs.Rounds.{least_kept, most_kept, working_plane}
 use Rattle.working_plane.specs.Colours.{round_of, KeptPlane}
 use Rattle.working_plane.proofs.Working.{colour_projectable, none_laid, more_laid, after_kept}
 use Rattle.two_levels.proofs.Projected.{two_laid}
-use Rattle.two_levels.proofs.TwoLevel.run.Goals as goal
-use Rattle.two_levels.proofs.TwoLevel.run.Goals.{After-least_kept-least, After-most_kept-most, After-shared_slice_known-1, After-shared_slice_known-2-1, After-from-second_limit, At-loop-n, Start}
+use Rattle.two_levels.proofs.TwoDepth.run.Goals as goal
+use Rattle.two_levels.proofs.TwoDepth.run.Goals.{After-least_kept-least, After-most_kept-most, After-shared_slice_known-1, After-shared_slice_known-2-1, After-from-second_limit, At-loop-n, Start}
 
 -- the working plane after n rounds
 abbrev After : goal.Start → ℕ → ℕ → ℕ → ℤ
