@@ -2,3 +2,4 @@ pub mod Mixing
 pub mod Turned
 pub mod Places
 pub mod Calls
+pub mod Rows

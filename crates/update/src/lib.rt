@@ -1,8 +1,8 @@
-// Document 01's green update. A colour goes as its parities, or as its places; a list comes with a place in it, and is no part cut from it (docs/DECISIONS.md, "Lent lists").
+// Document 01's green update. What a function is told of a colour goes as its parities, or as its places.
 #![tactic(auto)]
 
 ghost use Rattle.std.specs.Prelude.{◌≡◌, ◌+◌, ◌*◌, ◌≤◌, ◌<◌, nat_abs, length};
-ghost use Rattle.integers.specs.Lists.{overwrite};
+ghost use Rattle.integers.specs.Lists.{tabulate, overwrite};
 ghost use Rattle.planes.specs.Planes.{frame, listing, plane_of};
 ghost use Rattle.planes.specs.Lists.{value, sample, put, InRow, InPlane};
 ghost use Rattle.planes.specs.Places.{place};
@@ -18,13 +18,13 @@ ghost use Rattle.update.specs.Places.{with_mixed};
 use questions::{Refusal, Shape};
 use work_buffer::Places;
 
-// Every second sample of a row, n of them from `from` on: into the work buffer, from `to` on.
-fn gather_row(green: &[u16], from: usize, n: usize, work: &mut [i32], to: usize)
-    requires { InRow green.now from n 2 × (to + n ≤ length work.old) }
-    ensures { work.new ≡ overwrite work.old to n (λ k. sample green.now (from + 2 * k)) }
+// Every second sample of green, from `from` on, into a row of a small plane.
+fn gather_row(green: &[u16], from: usize, row: &mut [i32])
+    requires { InRow green.now from (length row.old) 2 }
+    ensures { row.new ≡ tabulate (length row.old) (λ k. sample green.now (from + 2 * k)) }
 {
-    for k in 0..n {
-        work[to + k] = i32::from(green[from + 2 * k]);
+    for (k, x) in row.iter_mut().enumerate() {
+        *x = i32::from(green[from + 2 * k]);
     }
 }
 
@@ -33,18 +33,19 @@ fn gather(green: &[u16], places: Places, work: &mut [i32])
     requires { InPlane green.now places.from places.columns places.rows places.down 2 × (places.columns * places.rows ≤ length work.old) }
     ensures { work.new ≡ overwrite work.old 0 (places.columns * places.rows) (λ k. sample green.now (place places.from places.down places.columns k)) }
 {
+    let columns = places.columns;
     for i in 0..places.rows {
+        let first = i * columns;
         gather_row(
             green,
             places.from + i * places.down,
-            places.columns,
-            work,
-            i * places.columns,
+            &mut work[first..first + columns],
         );
     }
 }
 
-// n numbers of the work buffer, from `at` on, back to every second place of a row.
+// n numbers of the work buffer, from `at` on, back to every second place of a row. With the row lent by itself, as in `gather_row`, an update took 0.5 % more
+// instructions.
 fn scatter_row(work: &[i32], at: usize, n: usize, green: &mut [u16], from: usize)
     requires { Narrow work.now at n × InRow green.old from n 2 }
     ensures { green.new ≡ put green.old n (λ k. from + 2 * k) (λ k. nat_abs (value work.now (at + k))) }

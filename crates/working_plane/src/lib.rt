@@ -126,6 +126,7 @@ pub fn put_observed(colour: Colour, mosaic: &[u16], work: &mut [i32])
 }
 
 // How deep the bank goes, one level or two: how the rounds of one colour's working plane are run.
+// The mosaic, green and the ceiling go one by one here and below: of a struct of slices each `ensures` would have to say `observed.entry.mosaic.now`.
 pub trait Depth {
     ghost two: { Bool };
 

@@ -16,7 +16,7 @@ room : (c : goal.Then-two_levels) → 8 * (c.args.shape.width * c.args.shape.hei
 room c = wide_room _ _ _ c.requires.2 (sym c.two_levels.ensures ∙ c.if-two_levels.true)
 
 pub slice_bounds-fill-end-then-two_levels : goal.slice_bounds-fill-end-then-two_levels
-slice_bounds-fill-end-then-two_levels c = room c
+slice_bounds-fill-end-then-two_levels c = omega (arith, room c)
 
 pub slice_bounds-fill-end-then-two_levels-2 : goal.slice_bounds-fill-end-then-two_levels-2
 slice_bounds-fill-end-then-two_levels-2 c = let r = room (goal.at.slice_bounds-fill-end-then-two_levels-2 c).Then-two_levels in search rules

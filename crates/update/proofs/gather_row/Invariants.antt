@@ -6,4 +6,4 @@ use Rattle.planes.specs.Lists.{sample}
 use Rattle.update.proofs.gather_row.Given as goal
 
 abbrev pub invariant-loop-k : goal.invariant-loop-k
-invariant-loop-k l = l.work ≡ overwrite l.initial.work l.to l.k (λ j. sample l.green (l.from + 2 * j))
+invariant-loop-k l = l.row ≡ overwrite l.initial.row 0 l.k (λ j. sample l.green (l.from + 2 * j))
