@@ -48,7 +48,7 @@ fn excess(limit: i32, z: i32) -> i32
 }
 
 // Along a padded line of n that is low along the columns, what of band 2 lies outside the limit.
-fn outer_line(line: &[i32], limit: i32, d: usize, n: usize, out: &mut [i32], at: usize)
+pub fn outer_line(line: &[i32], limit: i32, d: usize, n: usize, out: &mut [i32], at: usize)
     requires { Distance limit × Triple 134217728 line.now d n × (at + n ≤ length out.old) }
     ensures { out.new ≡ overwrite out.old at n (outer high_split limit d line.now) }
 {
@@ -59,7 +59,7 @@ fn outer_line(line: &[i32], limit: i32, d: usize, n: usize, out: &mut [i32], at:
 }
 
 // Along a padded line of n that is high along the columns, what of bands 3 and 4 lies outside: their difference and their sum.
-fn outer_lines(
+pub fn outer_lines(
     line: &[i32],
     limit: i32,
     d: usize,
@@ -125,7 +125,7 @@ pub fn crossed_at(x: &[i32], y: &[i32], starts: lines::Five, n: usize, k: usize)
 }
 
 // The joined parts of a row, along three padded lines of parts: their difference and their sum, from `at` on. Lent lists go one by one (docs/DECISIONS.md, "Lent lists").
-fn join_parts(
+pub fn join_parts(
     parts: &[i32],
     minus: &[i32],
     plus: &[i32],

@@ -68,6 +68,8 @@ impl Frame<'_> {
     }
 
     // Five samples about column c, reflected, of the row two rows before row r, reflected.
+    // Inlined, so that the five rows share their columns.
+    #[inline(always)]
     fn row_before(&self, r: usize, c: usize) -> Line
         requires { c < 4096 }
         ensures { result ≡ tabulate 5 (λ j. plane_of 0 self.now.shape.width self.now.samples.now (reflect self.now.shape.height (pos r -ℤ pos 2)) (reflect self.now.shape.width (pos (c + j) -ℤ pos 2))) }

@@ -56,7 +56,7 @@ pub struct Level {
 }
 
 // Where a ring of n slots has the row that stands `back` rows before row r.
-fn slot_before(given: Given, n: usize, r: usize, back: usize) -> usize
+pub fn slot_before(given: Given, n: usize, r: usize, back: usize) -> usize
     requires { (1 ≤ n) × (n ≤ 9) × Sizes 1 given.width given.height }
     ensures { (result ≡ slot_of n given (pos r -ℤ pos back)) × (result + given.width ≤ n * given.width) }
 {
@@ -64,7 +64,7 @@ fn slot_before(given: Given, n: usize, r: usize, back: usize) -> usize
 }
 
 // And the row that stands `ahead` rows after it.
-fn slot_after(given: Given, n: usize, r: usize, ahead: usize) -> usize
+pub fn slot_after(given: Given, n: usize, r: usize, ahead: usize) -> usize
     requires { (1 ≤ n) × (n ≤ 9) × Sizes 1 given.width given.height × (r < given.height) × (ahead ≤ 4) }
     ensures { (result ≡ slot_of n given (pos r +ℤ pos ahead)) × (result + given.width ≤ n * given.width) }
 {

@@ -27,7 +27,7 @@ pub struct Colour {
 }
 
 // The other colour of red and blue.
-fn other(colour: Colour) -> Colour
+pub fn other(colour: Colour) -> Colour
     requires { (colour.row < 2) × (colour.column < 2) }
     ensures { result ≡ other colour }
 {
@@ -73,7 +73,7 @@ pub fn most_kept(top: u16) -> i32
 
 // A plane's samples into the work buffer's first numbers: the working plane. By index: what `work.iter_mut().zip(plane)` has written has no name in a
 // loop's invariant.
-fn load(plane: &[u16], work: &mut [i32])
+pub fn load(plane: &[u16], work: &mut [i32])
     requires { length plane.now ≤ length work.old }
     ensures { work.new ≡ overwrite work.old 0 (length plane.now) (sample plane.now) }
 {
@@ -83,7 +83,7 @@ fn load(plane: &[u16], work: &mut [i32])
 }
 
 // The working plane back into a plane of samples, clipped to 0..top: after the last round. By index, as in `load`.
-fn unload(work: &[i32], top: u16, plane: &mut [u16])
+pub fn unload(work: &[i32], top: u16, plane: &mut [u16])
     requires { length plane.old ≤ length work.now }
     ensures { plane.new ≡ tabulate (length plane.old) (λ k. clipped top (value work.now k)) }
 {
