@@ -2,7 +2,7 @@
 #![tactic(auto)]
 
 ghost use Rattle.std.specs.Prelude.{◌≡◌, cond, ◌++◌, ℕ, ◌+◌, ◌*◌, ◌/◌, ◌%◌, ◌≤◌, ◌<◌, eqb, leb, length};
-ghost use Rattle.integers.specs.Lists.{overwrite};
+ghost use Rattle.integers.specs.Lists.{tabulate};
 ghost use Rattle.planes.specs.Planes.{listing};
 ghost use Rattle.planes.specs.Lists.{InRow, InPlane};
 ghost use Rattle.questions.specs.Settings.{framed};
@@ -160,7 +160,8 @@ impl Turn {
     }
 
     // All turned rows. Rows stand `row_step` apart in `samples`, the samples of a row `column_step`. A struct of the four numbers would have one caller,
-    // which would write them all the same.
+    // which would write them all the same. It is put into both calls, where a step is 1: so a row along the given rows is a loop over vectors.
+    #[inline(always)]
     fn fill_rows(
         self,
         samples: &[u16],
@@ -177,15 +178,14 @@ impl Turn {
         let left_right = self.mirrors_left_right();
         let top_bottom = self.mirrors_top_bottom();
         for i in 0..rows {
-            let from = mirrored(top_bottom, rows, i) * row_step;
+            let from = mirrored_row(top_bottom, rows, i) * row_step;
+            let start = i * columns;
             fill_row(
                 samples,
                 left_right,
-                columns,
                 from,
                 column_step,
-                out,
-                i * columns,
+                &mut out[start..start + columns],
             );
         }
     }
@@ -229,24 +229,24 @@ fn mirrored(mirror: bool, n: usize, i: usize) -> usize
     if mirror { n - 1 - i } else { i }
 }
 
-// A turned row of n samples, into `out` from `at` on: they stand `step` apart in `samples`, the first at `from`.
-// A list comes with a place in it, and is no part cut from it (docs/DECISIONS.md, "Lent lists").
-fn fill_row(
-    samples: &[u16],
-    mirror: bool,
-    n: usize,
-    from: usize,
-    step: usize,
-    out: &mut [u16],
-    at: usize,
-)
-    requires in_row { InRow samples.now from n step }
-    requires n_in_bounds { at + n ≤ length out.old }
-    ensures { out.new ≡ overwrite out.old at n (source_row samples.now mirror n from step) }
+// The same for a row. It is put into no caller: one that sees rows go backwards asks of all rows at once whether they overlap what is written, finds that they
+// may, and takes samples one by one.
+#[inline(never)]
+fn mirrored_row(mirror: bool, rows: usize, i: usize) -> usize
+    requires { i < rows }
+    ensures { (result ≡ mirror_place mirror rows i) × (result < rows) }
 {
-    for j in 0..n {
-        let source = from + mirrored(mirror, n, j) * step;
-        out[at + j] = samples[source];
+    mirrored(mirror, rows, i)
+}
+
+// A turned row: its samples stand `step` apart in `samples`, the first at `from`.
+fn fill_row(samples: &[u16], mirror: bool, from: usize, step: usize, row: &mut [u16])
+    requires { InRow samples.now from (length row.old) step }
+    ensures { row.new ≡ tabulate (length row.old) (source_row samples.now mirror (length row.old) from step) }
+{
+    let n = row.len();
+    for (j, sample) in row.iter_mut().enumerate() {
+        *sample = samples[from + mirrored(mirror, n, j) * step];
     }
 }
 
