@@ -104,10 +104,9 @@ unfolding turned_all
 all_done ts k h {b} p = sym (ap (λ (l : List ℕ). turned_all l b) (drop_of_length-le ts h)) ∙ p
 
 -- ---- finished from the mosaic where the frame stands
-pub finished_standing : (at : Standing) (first second : List ℕ) (s : Settings) (before : Lent) {b : Bool} → at.swapped ≡ b → {r : Answer} {after : Lent}
-    → Outcome (finish_call (framed at.shape (cond b second first)) s before) r after → Outcome (finish_call (stands at first second).frame s before) r after
-finished_standing at first second s before e {r} {after} q =
-    subst (λ (b : Bool). Outcome (finish_call (framed at.shape (cond b second first)) s before) r after) (sym e) q
+pub finished_standing : (at : Standing) (first second : List ℕ) (s : Settings) (before : Lent) {mosaic : List ℕ} → mosaic ≡ cond at.swapped second first → {r : Answer} {after : Lent}
+    → Outcome (finish_call (framed at.shape mosaic) s before) r after → Outcome (finish_call (stands at first second).frame s before) r after
+finished_standing at first second s before e {r} {after} q = subst (λ (l : List ℕ). Outcome (finish_call (framed at.shape l) s before) r after) e q
 
 -- ---- all of it
 first_is : (at : Standing) (first second : List ℕ) → first_holds (stands at first second) ≡ first

@@ -12,7 +12,8 @@ ghost use Rattle.demand_3.specs.Alike.{stands, Moved, FinishedAlike};
 use questions::{Refusal, Settings, Shape};
 use turns::Turn;
 
-// Where the frame stands: its width, height and layout, and whether the second mosaic holds its samples.
+// Where the frame stands: its width, height and layout, and whether the second mosaic holds its samples. A flag, as the definition `Between` has it: each accepted
+// turn makes it its opposite, for which an enum of two names would need a function.
 #[derive(Clone, Copy)]
 struct Standing {
     shape: Shape,
@@ -27,10 +28,10 @@ pub struct Answers {
 }
 
 // A turning call from one mosaic into the other.
-fn turn_between(turn: u8, at: Standing, from: &[u16], to: &mut [u16]) -> Standing
-    ensures { Moved turn at from.now to.old result to.new }
+fn turn_between(turn: Turn, at: Standing, from: &[u16], to: &mut [u16]) -> Standing
+    ensures { Moved turn.number at from.now to.old result to.new }
 {
-    match turns::turn_samples(Turn { number: turn }, at.shape, from, to) {
+    match turns::turn_samples(turn, at.shape, from, to) {
         Ok(shape) => Standing {
             shape,
             swapped: !at.swapped,
@@ -40,8 +41,8 @@ fn turn_between(turn: u8, at: Standing, from: &[u16], to: &mut [u16]) -> Standin
 }
 
 // A turning call from the mosaic where the frame stands.
-fn turn_once(turn: u8, at: Standing, first: &mut [u16], second: &mut [u16]) -> Standing
-    ensures { stands result first.new second.new ≡ turned_once turn (stands at first.old second.old) }
+fn turn_once(turn: Turn, at: Standing, first: &mut [u16], second: &mut [u16]) -> Standing
+    ensures { stands result first.new second.new ≡ turned_once turn.number (stands at first.old second.old) }
 {
     if at.swapped {
         return turn_between(turn, at, second, first);
@@ -55,7 +56,7 @@ fn turn_all(turns: &[u8], start: Standing, first: &mut [u16], second: &mut [u16]
 {
     let mut at = start;
     for turn in turns {
-        at = turn_once(*turn, at, first, second);
+        at = turn_once(Turn { number: *turn }, at, first, second);
     }
     at
 }
@@ -75,12 +76,10 @@ fn finish_standing(
 ) -> Result<(), Refusal>
     ensures { Outcome (finish_call (stands at first.now second.now).frame settings (lent red.old green.old blue.old work.old wide_work.old)) result (lent red.new green.new blue.new work.new wide_work.new) }
 {
-    if at.swapped {
-        return finishing::finish_frame(
-            at.shape, settings, second, red, green, blue, work, wide_work,
-        );
-    }
-    finishing::finish_frame(at.shape, settings, first, red, green, blue, work, wide_work)
+    let mosaic = if at.swapped { second } else { first };
+    finishing::finish_frame(
+        at.shape, settings, mosaic, red, green, blue, work, wide_work,
+    )
 }
 
 // Finishes the frame in the first mosaic; turns it by these turns, back and forth between the two; finishes what stands then.

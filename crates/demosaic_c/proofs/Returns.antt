@@ -1,6 +1,5 @@
 -- What the calls that fill single numbers show where they return. Assumes nothing.
 use Rattle.std.proofs.Common.{◌≡◌, refl, sym, ap, ◌∙◌, subst, ℕ, ◌*◌, min, Bool, true, false, cond, List, [], ◌∷◌, ◌++◌, length, Result, Ok, Err, arith}
-use Rattle.std.specs.Result.{result_unwrap_or}
 use lib.Dec.{leb, ltb, eqb}
 use Rattle.planes.specs.Planes.{Frame, Planes}
 use Rattle.questions.specs.Settings.{framed}
@@ -18,7 +17,7 @@ use Rattle.spot.specs.declared.Reading.{Reading}
 use Rattle.spot.specs.declared.Reading.TheVariants as spot_reading
 use Rattle.turns.specs.Pictures.{Picture, then_another}
 use Rattle.turns.specs.Frames.{turn_frame}
-use Rattle.turns.specs.Turning.{then_questions, shape_turn_questions, turn_questions, shape_turned, turn_call}
+use Rattle.turns.specs.Turning.{then_questions, shape_turn_questions, turn_questions, shape_turned, turned_shape, turn_call}
 use Rattle.turns.specs.declared.Turn.{Turn}
 use Rattle.demosaic_c.specs.Pointers.{single_call, shape, shape_of, shape_call, turned_call, SpotNumbers, number_of_reading, kept_given, reading_call}
 use Rattle.demosaic_c.proofs.Cuts.{cut, cut_asked, cut_kept, carried}
@@ -100,29 +99,22 @@ module _ (turn width height layout : ℕ) {t : ℕ} (pt : t ≡ min turn 255) wh
     shape_carried : {k : ℕ} {after : Picture Unit} → Numbered (shape_call t width height l before) k after → Numbered (shape_call turn width height layout before) k after
     shape_carried = carried (shape_call t width height l before) (shape_call turn width height layout before) shape_asked refl shape-kept
 
-    abbrev turned_shape : Picture Unit
-    turned_shape = shape_turned t width height l
+    abbrev cut_turned : Picture Unit
+    cut_turned = shape_turned t width height l
 
-    -- what an operation of the turn answered, of a shape
-    abbrev Told : Shape → (Picture Unit → ℕ) → Result ℕ Refusal → Type 0
-    Told s part r = Answered (shape_turn_questions t s.width s.height s.layout) (part (shape_turned t s.width s.height s.layout)) r
+    -- what the turn answered, of a shape
+    abbrev Told : Shape → Result Shape Refusal → Type 0
+    Told s r = Answered (shape_turn_questions t s.width s.height s.layout) (turned_shape t s) r
 
     module _ {s : Shape} (ps : s ≡ cut width height layout) where
-      abbrev told_cut : (part : Picture Unit → ℕ) (r : Result ℕ Refusal) → Told s part r → Told (cut width height layout) part r
-      told_cut part r e = subst (λ (x : Shape). Told x part r) ps e
+      abbrev told_cut : {r : Result Shape Refusal} → Told s r → Told (cut width height layout) r
+      told_cut {r} e = subst (λ (x : Shape). Told x r) ps e
 
-      pub shape_no : {why : Refusal} → Told s (λ p. p.layout) (Err why) → {k : ℕ} → k ≡ refusal_number why → Numbered (shape_call turn width height layout before) k before
-      shape_no e q = shape_carried (told_no (told_cut (λ p. p.layout) _ e) turned_shape before q)
+      pub shape_no : {why : Refusal} → Told s (Err why) → {k : ℕ} → k ≡ refusal_number why → Numbered (shape_call turn width height layout before) k before
+      shape_no e q = shape_carried (told_no (told_cut e) cut_turned before q)
 
-      -- where the turned width and height were answered too
-      pub shape_yes : {rw rh : Result ℕ Refusal} → Told s (λ p. p.width) rw → Told s (λ p. p.height) rh → {w h m : ℕ} → w ≡ result_unwrap_or rw 0 → h ≡ result_unwrap_or rh 0
-          → Told s (λ p. p.layout) (Ok m) → Numbered (shape_call turn width height layout before) 0 (shape w h m)
-      shape_yes ew eh {w} {h} pw ph el =
-          let told = told_cut (λ p. p.layout) _ el in
-          let z = sym told.number in
-          let wide : w ≡ turned_shape.width = pw ∙ ap (λ r. result_unwrap_or r 0) ((told_cut (λ p. p.width) _ ew).accepted z) in
-          let high : h ≡ turned_shape.height = ph ∙ ap (λ r. result_unwrap_or r 0) ((told_cut (λ p. p.height) _ eh).accepted z) in
-          shape_carried (told_yes told (λ x. shape w h x) turned_shape before (λ i. shape (wide i) (high i) turned_shape.layout))
+      pub shape_yes : {turned : Shape} → Told s (Ok turned) → Numbered (shape_call turn width height layout before) 0 (shape turned.width turned.height turned.layout)
+      shape_yes e = shape_carried (told_yes (told_cut e) (λ x. shape x.width x.height x.layout) cut_turned before refl)
 
   module _ (samples out : List ℕ) (before : Picture Unit) where
     abbrev given : Frame

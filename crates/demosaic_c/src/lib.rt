@@ -176,13 +176,11 @@ pub extern "C" fn demosaic_turned_shape(
 {
     let t = Turn { number: byte(turn) };
     let given = cut_shape(width, height, layout);
-    let w = t.turned_width(given).unwrap_or(0);
-    let h = t.turned_height(given).unwrap_or(0);
-    match t.turned_layout(given) {
-        Ok(l) => {
-            *turned_width = w;
-            *turned_height = h;
-            *turned_layout = u32::from(l);
+    match t.turned_shape(given) {
+        Ok(shape) => {
+            *turned_width = shape.width;
+            *turned_height = shape.height;
+            *turned_layout = u32::from(shape.layout);
             0
         }
         Err(refusal) => refusal.number(),

@@ -46,7 +46,8 @@ impl Lent {
 }
 
 // The example with these turns: a line of the turns, a line of both numbers, a line of each mosaic, and what each finishing left. `min` changes
-// no length of an example: it shows that each lies within its array.
+// no length of an example: it shows that each lies within its array. A ghost field of `Lengths` would show it too, but a struct that has one takes no
+// `..base`, by which the examples differ from one another.
 pub(crate) fn show(rt: &impl Print, turns: &[u8], e: Example) -> io::Result<()> {
     let n = e.lengths;
     let mut samples = frames::samples(e.sample);

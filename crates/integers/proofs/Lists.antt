@@ -12,6 +12,8 @@ use native.Mathlib.Omega.{arith}
 use lib.ListN.{length, take, drop, get_or, set, length-append, length-drop, take-append-drop, get_or-append, drop_of_length-le}
 use lib.Seq.{sets, drop-cons, set_at, append_snoc, get_or-append-add, get_or-take, get_or-drop, length-take-le, ext_get_or, get_or_at}
 use lib.Dec.{eqb, eqb→eq}
+use borrow.Rule.Slice.PartMut.{put_mid}
+use Rattle.std.proofs.lemmas.List.{drop-drop}
 use borrow.Author.Tests.{eq-eqb}
 use Rattle.integers.specs.Lists.{tabulate, overwrite, same_list}
 use Rattle.integers.proofs.Tests.{is_true, true_is, never, and_left, and_right}
@@ -125,6 +127,17 @@ module _ {A : Type 0} where
   pub overwrite_all : (l : List A) (n : ℕ) (f : ℕ → A) → n ≡ length l → overwrite l 0 n f ≡ tabulate n f
   unfolding overwrite
   overwrite_all l n f e = ap (λ (t : List A). tabulate n f ++ t) (drop_of_length-le l {i = 0 + n} (omega arith)) ∙ append-nil (tabulate n f)
+
+  -- a part `&mut l[o..e]` that a callee laid down whole, where the part has as many elements as it says (n)
+  pub overwrite_part : (l : List A) (o e : ℕ) (f : ℕ → ℕ → A) {n : ℕ} {m : List A} → e - o ≡ n → o + n ≤ length l
+      → let k = length (take (e - o) (drop o l)) in m ≡ tabulate k (f k) → put_mid o (e - o) l m ≡ overwrite l o n (f n)
+  unfolding overwrite
+  overwrite_part l o e f {n} d h p =
+      (λ i. take o l ++ ((p ∙ (λ j. tabulate (long j) (f (long j)))) i ++ drop (d i) (drop o l)))
+      ∙ sym (append_assoc (take o l) (tabulate n (f n)) (drop n (drop o l))) ∙ ap (λ (t : List A). (take o l ++ tabulate n (f n)) ++ t) (drop-drop n o l)
+    where
+      long : length (take (e - o) (drop o l)) ≡ n
+      long = length-take-le (e - o) (drop o l) (omega (arith, length-drop o l)) ∙ d
 
   -- n more after m, of which a callee's contract speaks by themselves
   pub overwrite-append : (l : List A) (o m n : ℕ) (f g : ℕ → A) → o + (m + n) ≤ length l → ((i : ℕ) → i < n → g i ≡ f (m + i)) → overwrite (overwrite l o m f) (o + m) n g ≡ overwrite l o (m + n) f

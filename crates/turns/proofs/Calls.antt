@@ -1,49 +1,68 @@
 -- What the code of the calls computes is what their definitions say. Assumes nothing.
-use mathlib.Core.Path.{◌≡◌, refl, sym, ◌∙◌, ap}
-use mathlib.Core.Bool.{Bool, true, false, cond, xor}
+use mathlib.Core.Path.{◌≡◌, refl, sym, ◌∙◌, ap, subst}
+use mathlib.Core.Bool.{Bool, true, false, cond, not, beq, xor}
 use mathlib.Core.List.{List, ◌++◌}
-use Prim.Native.Nat.{ℕ, ◌+◌, ◌*◌, ◌/◌, ◌%◌, ◌≤◌, ◌<◌}
+use Prim.Native.Nat.{ℕ, ◌+◌, ◌*◌, ◌/◌, ◌<◌}
 use native.Mathlib.Omega.{arith}
-use lib.Dec.{leb, eqb}
+use lib.Dec.{leb}
 use lib.ListN.{get_or}
-use borrow.Author.Tests.{le-leb, lt-leb, eqb-true}
-use Rattle.integers.proofs.Tests.{equal_below}
+use mir.Val.{bool_byte}
+use borrow.Author.Tests.{eqb-true}
 use Rattle.planes.specs.Layout.{red_row, red_column, with_parities}
 use Rattle.planes.specs.Planes.{listing, plane_of, Frame, frame}
 use Rattle.planes.proofs.Layouts.{row_lt, column_lt, row_with, column_with, parities_again, own_parities}
 use Rattle.questions.specs.Questions.{ask}
 use Rattle.questions.proofs.Asking.{all_yes, Shape, shape_is}
 use Rattle.questions.specs.declared.Shape.{Shape as Turned}
-use Rattle.turns.specs.Pictures.{Picture, exchanged, left_right, top_bottom, flip_if_even, steps_of, if_so, turned_by, turned, followed_by, number_of_steps, then_another}
+use Rattle.turns.specs.Pictures.{Picture, exchanged, left_right, top_bottom, flip_if_even, steps_of, if_so, turned_by, turned, followed_by, bit, number_of_steps, then_another}
 use Rattle.turns.specs.Frames.{picture_of, frame_of, turn_frame}
-use Rattle.turns.specs.Turning.{shape_turned, shape_turn_questions, length_questions, shape_of}
+use Rattle.turns.specs.Turning.{shape_turned, turned_shape, shape_turn_questions, length_questions, shape_of}
 use Rattle.turns.specs.Filling.{mirror_place, source_row, source_plane}
 use Rattle.turns.proofs.Pictures.{flip_lt}
 
--- ---- then-another, by one computed test over all pairs
--- as the code has it: the second turn exchanges, or not
-abbrev exchanging : ℕ → ℕ → ℕ
-exchanging s t = 4 * ((s / 4 + 1) % 2) + 2 * ((s % 2 + t / 2) % 2) + (s / 2 + t) % 2
+-- whether turn t exchanges rows and columns, mirrors left-right, and top-bottom
+abbrev ex_of : ℕ → Bool
+ex_of t = (steps_of t).exchange
 
-abbrev mirroring : ℕ → ℕ → ℕ
-mirroring s t = 4 * (s / 4) + 2 * ((s / 2 + t / 2) % 2) + (s + t) % 2
-
-single_is : (s t : ℕ) → s ≤ 7 → t ≤ 7 → cond (leb 4 t) (exchanging s t) (mirroring s t) ≡ then_another s t
-unfolding then_another number_of_steps followed_by steps_of xor
-single_is s t hs ht = equal_below 8 8 (λ s t. cond (leb 4 t) (exchanging s t) (mirroring s t)) then_another tt s t (omega arith) (omega arith)
-
-pub single_high : (s t : ℕ) → s ≤ 7 → t ≤ 7 → 4 ≤ t → exchanging s t ≡ then_another s t
-single_high s t hs ht h = sym (ap (λ (b : Bool). cond b (exchanging s t) (mirroring s t)) (le-leb 4 t h)) ∙ single_is s t hs ht
-
-pub single_low : (s t : ℕ) → s ≤ 7 → t ≤ 7 → t < 4 → mirroring s t ≡ then_another s t
-single_low s t hs ht h = sym (ap (λ (b : Bool). cond b (exchanging s t) (mirroring s t)) (lt-leb 4 t h)) ∙ single_is s t hs ht
-
--- whether turn t mirrors left-right, and top-bottom
 abbrev lr_of : ℕ → Bool
-lr_of t = eqb (t % 2) 1
+lr_of t = (steps_of t).mirror_left_right
 
 abbrev tb_of : ℕ → Bool
-tb_of t = eqb (t / 2 % 2) 1
+tb_of t = (steps_of t).mirror_top_bottom
+
+-- ---- then-another
+-- the mirrors of turn s, exchanged or not
+pub record Swapped (e : Bool) (s : ℕ) (q : Bool × Bool) : Type 0 where
+  left_right : q.0 ≡ cond e (tb_of s) (lr_of s)
+  top_bottom : q.1 ≡ cond e (lr_of s) (tb_of s)
+
+abbrev pub swapped_if : Bool → ℕ → Bool × Bool
+swapped_if e s = cond e (tb_of s, lr_of s) (lr_of s, tb_of s)
+
+pub swapped_is : (b : Bool) (s : ℕ) {e : Bool} {q : Bool × Bool} → e ≡ b → q ≡ swapped_if b s → Swapped e s q
+swapped_is b s {e} {q} f p = subst (λ (e : Bool). Swapped e s q) (sym f) (go b p)
+  where
+    go : (b : Bool) → q ≡ swapped_if b s → Swapped b s q
+    go true p = record { left_right = λ i. (p i).0; top_bottom = λ i. (p i).1 }
+    go false p = record { left_right = λ i. (p i).0; top_bottom = λ i. (p i).1 }
+
+-- whether two steps differ, as a digit
+digit : (x y : Bool) → bool_byte (not (beq x y)) ≡ bit (xor x y)
+unfolding xor
+digit true true = refl
+digit true false = refl
+digit false true = refl
+digit false false = refl
+
+-- as the code has it: an exchange in the second turn swaps the mirrors of the first
+pub single_is : (s t : ℕ) {e f g l m : Bool} → e ≡ ex_of t → f ≡ ex_of s → g ≡ ex_of t → l ≡ lr_of t → m ≡ tb_of t → {q : Bool × Bool} → Swapped e s q → {a b c : ℕ}
+    → a ≡ bool_byte (not (beq f g)) → b ≡ bool_byte (not (beq q.1 m)) → c ≡ bool_byte (not (beq q.0 l))
+    → 4 * a + 2 * b + c ≡ then_another s t
+unfolding then_another number_of_steps followed_by
+single_is s t p pf pg pl pm {q} x u v w =
+    (λ i. 4 * u i + 2 * v i + w i)
+    ∙ (λ i. 4 * bool_byte (not (beq (pf i) (pg i))) + 2 * bool_byte (not (beq (x.top_bottom i) (pm i))) + bool_byte (not (beq (x.left_right i) (pl i))))
+    ∙ (λ i. 4 * digit (ex_of s) (ex_of t) i + 2 * digit (cond (p i) (lr_of s) (tb_of s)) (tb_of t) i + digit (cond (p i) (tb_of s) (lr_of s)) (lr_of t) i)
 
 -- ---- a layout after a step
 -- a step that changes red's row parity by F and its column parity by G
@@ -72,14 +91,16 @@ module _ {A : Type 0} where
   seen false false true p = record { wide = refl; high = refl; from = λ i j. refl }
   seen false false false p = record { wide = refl; high = refl; from = λ i j. refl }
 
-  turned_seen : (t : ℕ) (p : Picture A) → Seen (leb 4 t) (lr_of t) (tb_of t) p (turned t p)
-  unfolding turned turned_by steps_of
-  turned_seen t p = seen (leb 4 t) (lr_of t) (tb_of t) p
+  turned_seen : (t : ℕ) (p : Picture A) → Seen (ex_of t) (lr_of t) (tb_of t) p (turned t p)
+  unfolding turned turned_by
+  turned_seen t p = seen (ex_of t) (lr_of t) (tb_of t) p
 
   pub turned_width : (t : ℕ) (p : Picture A) → (turned t p).width ≡ cond (leb 4 t) p.height p.width
+  unfolding steps_of
   turned_width t p = (turned_seen t p).wide
 
   pub turned_height : (t : ℕ) (p : Picture A) → (turned t p).height ≡ cond (leb 4 t) p.width p.height
+  unfolding steps_of
   turned_height t p = (turned_seen t p).high
 
   -- ---- the turned layout
@@ -140,29 +161,46 @@ module _ {A : Type 0} where
       tall false true = unfold left_right in refl
       tall false false = refl
 
--- as the code has it
-layout_after : (e : Bool) (t w h l a b : ℕ) → leb 4 t ≡ e
-    → a ≡ cond (tb_of t) (flip_if_even (cond e w h) (cond e (l % 2) (l / 2 % 2))) (cond e (l % 2) (l / 2 % 2))
-    → b ≡ cond (lr_of t) (flip_if_even (cond e h w) (cond e (l / 2 % 2) (l % 2))) (cond e (l / 2 % 2) (l % 2))
-    → 4 * (l / 4) + (2 * a + b) ≡ (shape_turned t w h l).layout
-unfolding shape_turned turned turned_by steps_of red_row red_column with_parities
-layout_after e t w h l a b f p q =
-    (λ i. with_parities l (p i) (q i))
-    ∙ sym (turned_layout e (lr_of t) (tb_of t) blank)
-    ∙ ap (λ (x : Bool). (if_so (tb_of t) top_bottom (if_so (lr_of t) left_right (if_so x exchanged blank))).layout) (sym f)
+-- what the code makes of a shape where the turn exchanges, and where it does not: a width, a height and red's parities
+pub record Exchanged (e : Bool) (s : Turned) (q : ℕ × ℕ × ℕ × ℕ) : Type 0 where
+  wide : q.0 ≡ cond e s.height s.width
+  high : q.1 ≡ cond e s.width s.height
+  row : q.2 ≡ cond e (red_column s.layout) (red_row s.layout)
+  column : q.3 ≡ cond e (red_row s.layout) (red_column s.layout)
+
+abbrev pub exchanged_if : Bool → Turned → ℕ × ℕ × ℕ × ℕ
+exchanged_if e s = cond e (s.height, s.width, red_column s.layout, red_row s.layout) (s.width, s.height, red_row s.layout, red_column s.layout)
+
+pub exchanged_is : (b : Bool) (s : Turned) {e : Bool} {q : ℕ × ℕ × ℕ × ℕ} → e ≡ b → q ≡ exchanged_if b s → Exchanged e s q
+exchanged_is b s {e} {q} f p = subst (λ (e : Bool). Exchanged e s q) (sym f) (go b p)
+  where
+    go : (b : Bool) → q ≡ exchanged_if b s → Exchanged b s q
+    go true p = record { wide = λ i. (p i).0; high = λ i. (p i).1; row = λ i. (p i).2; column = λ i. (p i).3 }
+    go false p = record { wide = λ i. (p i).0; high = λ i. (p i).1; row = λ i. (p i).2; column = λ i. (p i).3 }
+
+-- and then the layout, each parity mirrored or not
+pub shape_after : (t : ℕ) (s : Turned) {e lr tb : Bool} → e ≡ ex_of t → lr ≡ lr_of t → tb ≡ tb_of t → {q : ℕ × ℕ × ℕ × ℕ} → Exchanged e s q → {a b : ℕ}
+    → a ≡ cond tb (flip_if_even q.1 q.2) q.2 → b ≡ cond lr (flip_if_even q.0 q.3) q.3
+    → ◌≡◌ {A = Turned} (record { width = q.0; height = q.1; layout = 4 * (s.layout / 4) + (2 * a + b) }) (turned_shape t s)
+unfolding shape_turned turned turned_by with_parities
+shape_after t s ei li ti {q} x {a} {b} f g = λ i. record { width = wide i; height = high i; layout = layout i }
   where
     blank : Picture Unit
-    blank = record { width = w; height = h; layout = l; at = λ r c. tt }
+    blank = record { width = s.width; height = s.height; layout = s.layout; at = λ r c. tt }
 
-pub layout_high : (t w h l a b : ℕ) → 4 ≤ t
-    → a ≡ cond (tb_of t) (flip_if_even w (l % 2)) (l % 2) → b ≡ cond (lr_of t) (flip_if_even h (l / 2 % 2)) (l / 2 % 2)
-    → 4 * (l / 4) + (2 * a + b) ≡ (shape_turned t w h l).layout
-layout_high t w h l a b k = layout_after true t w h l a b (le-leb 4 t k)
+    wide : q.0 ≡ (turned_by (steps_of t) blank).width
+    wide = x.wide ∙ (λ i. cond (ei i) s.height s.width) ∙ sym (seen (ex_of t) (lr_of t) (tb_of t) blank).wide
 
-pub layout_low : (t w h l a b : ℕ) → t < 4
-    → a ≡ cond (tb_of t) (flip_if_even h (l / 2 % 2)) (l / 2 % 2) → b ≡ cond (lr_of t) (flip_if_even w (l % 2)) (l % 2)
-    → 4 * (l / 4) + (2 * a + b) ≡ (shape_turned t w h l).layout
-layout_low t w h l a b k = layout_after false t w h l a b (lt-leb 4 t k)
+    high : q.1 ≡ (turned_by (steps_of t) blank).height
+    high = x.high ∙ (λ i. cond (ei i) s.width s.height) ∙ sym (seen (ex_of t) (lr_of t) (tb_of t) blank).high
+
+    layout : 4 * (s.layout / 4) + (2 * a + b) ≡ (turned_by (steps_of t) blank).layout
+    layout =
+        (λ i. with_parities s.layout (f i) (g i))
+        ∙ (λ i. with_parities s.layout (cond (ti i) (flip_if_even (x.high i) (x.row i)) (x.row i)) (cond (li i) (flip_if_even (x.wide i) (x.column i)) (x.column i)))
+        ∙ (λ i. let r = cond (ei i) (red_column s.layout) (red_row s.layout) in let c = cond (ei i) (red_row s.layout) (red_column s.layout) in
+        with_parities s.layout (cond (tb_of t) (flip_if_even (cond (ei i) s.width s.height) r) r) (cond (lr_of t) (flip_if_even (cond (ei i) s.height s.width) c) c))
+        ∙ sym (turned_layout (ex_of t) (lr_of t) (tb_of t) blank)
 
 -- ---- a frame's shape turns as a shape with nothing at its places
 pub frame_width : (t : ℕ) (f : Frame) → (turn_frame t f).width ≡ cond (leb 4 t) f.height f.width
@@ -174,19 +212,19 @@ unfolding turn_frame frame_of
 frame_height t f = unfold picture_of in turned_height t (picture_of f)
 
 pub frame_layout : (t : ℕ) (f : Frame) → (turn_frame t f).layout ≡ (shape_turned t f.width f.height f.layout).layout
-unfolding turn_frame frame_of shape_turned turned turned_by steps_of picture_of
+unfolding turn_frame frame_of shape_turned turned turned_by picture_of
 frame_layout t f =
-    turned_layout (leb 4 t) (lr_of t) (tb_of t) (picture_of f)
-    ∙ sym (turned_layout (leb 4 t) (lr_of t) (tb_of t) (record { width = f.width; height = f.height; layout = f.layout; at = λ r c. tt }))
+    turned_layout (ex_of t) (lr_of t) (tb_of t) (picture_of f)
+    ∙ sym (turned_layout (ex_of t) (lr_of t) (tb_of t) (record { width = f.width; height = f.height; layout = f.layout; at = λ r c. tt }))
 
 -- ---- the turned samples
 -- as rows of the given ones: their columns where the turn exchanges, else their rows
 abbrev source : Bool → ℕ → ℕ → ℕ → List ℕ → ℕ → ℕ → ℕ
 source e t w h s i j = cond e (source_plane s (lr_of t) (tb_of t) h w 1 w i j) (source_plane s (lr_of t) (tb_of t) w h w 1 i j)
 
-turned_from : (t w h l : ℕ) (s : List ℕ) (i j : ℕ) → (turned t (picture_of (frame w h l s))).at i j ≡ source (leb 4 t) t w h s i j
+turned_from : (t w h l : ℕ) (s : List ℕ) (i j : ℕ) → (turned t (picture_of (frame w h l s))).at i j ≡ source (ex_of t) t w h s i j
 unfolding source_plane source_row
-turned_from t w h l s i j = (turned_seen t (picture_of (frame w h l s))).from i j ∙ (unfold picture_of plane_of in (λ k. cond (leb 4 t) (get_or s (high k) 0) (get_or s (low k) 0)))
+turned_from t w h l s i j = (turned_seen t (picture_of (frame w h l s))).from i j ∙ (unfold picture_of plane_of in (λ k. cond (ex_of t) (get_or s (high k) 0) (get_or s (low k) 0)))
   where
     high : mirror_place (lr_of t) h j * w + mirror_place (tb_of t) w i ≡ mirror_place (tb_of t) w i * 1 + mirror_place (lr_of t) h j * w
     high = omega arith
@@ -194,20 +232,20 @@ turned_from t w h l s i j = (turned_seen t (picture_of (frame w h l s))).from i 
     low : mirror_place (tb_of t) h i * w + mirror_place (lr_of t) w j ≡ mirror_place (tb_of t) h i * w + mirror_place (lr_of t) w j * 1
     low = omega arith
 
-turned_samples : (e : Bool) (t w h l : ℕ) (s : List ℕ) → leb 4 t ≡ e → (turn_frame t (frame w h l s)).samples ≡ listing (cond e h w) (cond e w h) (source e t w h s)
+turned_samples : (e : Bool) (t w h l : ℕ) (s : List ℕ) → ex_of t ≡ e → (turn_frame t (frame w h l s)).samples ≡ listing (cond e h w) (cond e w h) (source e t w h s)
 unfolding turn_frame frame_of
 turned_samples e t w h l s f =
-    (λ i. listing (turned_width t p i) (turned_height t p i) (λ a b. turned_from t w h l s a b i))
+    (λ i. listing ((turned_seen t p).wide i) ((turned_seen t p).high i) (λ a b. turned_from t w h l s a b i))
     ∙ (unfold picture_of in (λ i. listing (cond (f i) h w) (cond (f i) w h) (source (f i) t w h s)))
   where
     p : Picture ℕ
     p = picture_of (frame w h l s)
 
-pub samples_high : (t w h l : ℕ) (s : List ℕ) {out : List ℕ} → 4 ≤ t → out ≡ listing h w (source_plane s (lr_of t) (tb_of t) h w 1 w) → out ≡ (turn_frame t (frame w h l s)).samples
-samples_high t w h l s k e = e ∙ sym (turned_samples true t w h l s (le-leb 4 t k))
+pub samples_high : (t : ℕ) (f : Frame) {out : List ℕ} → ex_of t ≡ true → out ≡ listing f.height f.width (source_plane f.samples (lr_of t) (tb_of t) f.height f.width 1 f.width) → out ≡ (turn_frame t f).samples
+samples_high t f k e = e ∙ sym (turned_samples true t f.width f.height f.layout f.samples k)
 
-pub samples_low : (t w h l : ℕ) (s : List ℕ) {out : List ℕ} → t < 4 → out ≡ listing w h (source_plane s (lr_of t) (tb_of t) w h w 1) → out ≡ (turn_frame t (frame w h l s)).samples
-samples_low t w h l s k e = e ∙ sym (turned_samples false t w h l s (lt-leb 4 t k))
+pub samples_low : (t : ℕ) (f : Frame) {out : List ℕ} → ex_of t ≡ false → out ≡ listing f.width f.height (source_plane f.samples (lr_of t) (tb_of t) f.width f.height f.width 1) → out ≡ (turn_frame t f).samples
+samples_low t f k e = e ∙ sym (turned_samples false t f.width f.height f.layout f.samples k)
 
 -- ---- what an accepted call knows
 pub shape_known : (t w h l : ℕ) → 0 ≡ ask (shape_turn_questions t w h l) → Shape w h l
@@ -228,19 +266,14 @@ fillable t w h l given room e =
       buffer = eqb-true room (w * h) y.1.1.1.1.1.0;
     }
 
--- its answer, by whether the turn exchanges
-pub turned_answer : (t : ℕ) (f : Frame) {w h l : ℕ} → w ≡ cond (leb 4 t) f.height f.width → h ≡ cond (leb 4 t) f.width f.height
-    → l ≡ (shape_turned t f.width f.height f.layout).layout → ◌≡◌ {A = Turned} (record { width = w; height = h; layout = l }) (shape_of (turn_frame t f))
-turned_answer t f p q r = λ i. record { width = (p ∙ sym (frame_width t f)) i; height = (q ∙ sym (frame_height t f)) i; layout = (r ∙ sym (frame_layout t f)) i }
-
--- the turned shape, by whether the turn exchanges
-pub shape_width : (t w h l : ℕ) → (shape_turned t w h l).width ≡ cond (leb 4 t) h w
+-- its answer: a turned frame's shape is the frame's shape turned
+pub turned_answer : (t : ℕ) (f : Frame) → turned_shape t (shape_of f) ≡ shape_of (turn_frame t f)
 unfolding shape_turned
-shape_width t w h l = turned_width t (record { width = w; height = h; layout = l; at = λ r c. tt })
-
-pub shape_height : (t w h l : ℕ) → (shape_turned t w h l).height ≡ cond (leb 4 t) w h
-unfolding shape_turned
-shape_height t w h l = turned_height t (record { width = w; height = h; layout = l; at = λ r c. tt })
+turned_answer t f = λ i. record {
+  width = (turned_width t (record { width = f.width; height = f.height; layout = f.layout; at = λ r c. tt }) ∙ sym (frame_width t f)) i;
+  height = (turned_height t (record { width = f.width; height = f.height; layout = f.layout; at = λ r c. tt }) ∙ sym (frame_height t f)) i;
+  layout = sym (frame_layout t f) i;
+}
 
 -- ---- the loops
 pub row-sample : (s : List ℕ) (b : Bool) (n from step j m : ℕ) → m ≡ mirror_place b n j → get_or s (from + m * step) 0 ≡ source_row s b n from step j

@@ -29,6 +29,10 @@ turn_questions turn f room = shape_turn_questions turn f.width f.height f.layout
 unfoldable pub shape_turned : ℕ → ℕ → ℕ → ℕ → Picture Unit
 shape_turned turn width height layout = turned turn (record { width = width; height = height; layout = layout; at = λ r c. tt })
 
+-- the same as a shape
+abbrev pub turned_shape : ℕ → Shape → Shape
+turned_shape turn s = let p = shape_turned turn s.width s.height s.layout in record { width = p.width; height = p.height; layout = p.layout }
+
 -- a frame's width, height and layout
 abbrev pub shape_of : Frame → Shape
 shape_of f = record { width = f.width; height = f.height; layout = f.layout }

@@ -4,10 +4,6 @@ use std::fmt::Display;
 use std::io;
 use turns::Turn;
 
-fn refused(rt: &impl Print, why: Refusal) -> io::Result<()> {
-    print!(rt; "refused {}", why.number())
-}
-
 // A number that was answered, or a refusal.
 pub(crate) fn number<T: Display + Drop>(
     rt: &impl Print,
@@ -15,7 +11,7 @@ pub(crate) fn number<T: Display + Drop>(
 ) -> io::Result<()> {
     match answer {
         Ok(n) => rt.print(n),
-        Err(why) => refused(rt, why),
+        Err(why) => print!(rt; "{why}"),
     }
 }
 
@@ -30,7 +26,7 @@ pub(crate) fn shape(rt: &impl Print, s: Shape) -> io::Result<()> {
 pub(crate) fn frame(rt: &impl Print, answer: Result<Shape, Refusal>) -> io::Result<()> {
     match answer {
         Ok(s) => shape(rt, s),
-        Err(why) => refused(rt, why),
+        Err(why) => print!(rt; "{why}"),
     }
 }
 

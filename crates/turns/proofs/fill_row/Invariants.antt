@@ -5,4 +5,4 @@ use Rattle.turns.specs.Filling.{source_row}
 use Rattle.turns.proofs.fill_row.Given as goal
 
 abbrev pub invariant-loop-j : goal.invariant-loop-j
-invariant-loop-j l = l.out ≡ overwrite l.initial.out l.at l.j (source_row l.samples l.mirror l.n l.from l.step)
+invariant-loop-j l = l.row ≡ overwrite l.initial.row 0 l.j (source_row l.samples l.mirror l.n l.from l.step)

@@ -1,6 +1,6 @@
 -- `turns::turn_samples` meets its contract: one check, and then the turned samples.
-use Rattle.std.proofs.Common.{rules, ap, arith, length, Ok}
-use Rattle.planes.specs.Planes.{frame}
+use Rattle.std.proofs.Common.{rules, ap, ◌∙◌, arith, length, Ok}
+use Rattle.questions.specs.Settings.{framed}
 use Rattle.questions.proofs.Answering.{refuses, accepts}
 use Rattle.turns.proofs.Calls.{Fillable, fillable, turned_answer}
 use Rattle.turns.proofs.turn_samples.Goals as goal
@@ -18,12 +18,9 @@ known c =
 pub fill-requires : goal.fill-requires
 fill-requires c = let k = known (goal.at.fill-requires c).In_ok-ask_turn in (omega (arith, k.shape.sizes.width_from), omega (arith, k.shape.sizes.height_from), k.samples, k.buffer)
 
-pub layout_after-requires : goal.layout_after-requires
-layout_after-requires c = (known (goal.at.layout_after-requires c).In_ok-ask_turn).shape.layout_to
-
 pub returns : goal.returns
 returns c =
     let a = c.args in
     accepts c.in_ok-ask_turn.ensures
-    (ap (λ s. Ok s) (turned_answer a.turn.number (frame a.shape.width a.shape.height a.shape.layout a.samples.now) c.if_exchanged.ensures c.if_exchanged-2.ensures c.layout_after.ensures))
-    (c.fill.ensures a.shape.layout)
+    (ap (λ s. Ok s) (c.shape_after.ensures ∙ turned_answer a.turn.number (framed a.shape a.samples.now)))
+    c.fill.ensures

@@ -12,4 +12,4 @@ pub returns-then-second-gt7 : goal.returns-then-second-gt7
 returns-then-second-gt7 c = answer_no Turn refl (search asking)
 
 pub returns : goal.returns
-returns c = answer_yes (search asking) (ap (λ n. Ok (record { number = n })) c.single.ensures)
+returns c = answer_yes (search asking) (ap (λ t. Ok t) c.single.ensures)
