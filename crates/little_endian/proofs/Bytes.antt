@@ -9,6 +9,10 @@ use native.Mathlib.Numerals.{add-one}
 use native.Mathlib.Omega.{arith}
 use lib.ListN.{length, get_or, take, drop, set, length-take, get_or-eq_default}
 use lib.Seq.{drop-cons, get_or-take, get_or-drop, sets}
+use Rattle.std.proofs.Common.{Option, Some, Bor}
+use Rattle.std.proofs.lemmas.Slice.{between_to_end}
+use Rattle.std.specs.Array.{IsFirstChunk}
+use Rattle.std.specs.Option.{MatchOption}
 use Rattle.little_endian.specs.Bytes.{bytes_of, number_at}
 
 -- every element is below n; 0 stands for those outside
@@ -41,6 +45,23 @@ number_at-drop (suc n) l i j =
 
 pub number_at_cons : (n b : ℕ) (l : List ℕ) (j : ℕ) → number_at n (b ∷ l) (suc j) ≡ number_at n l j
 number_at_cons n b l j = ap (number_at n (b ∷ l)) (omega arith) ∙ number_at-drop n (b ∷ l) 1 j
+
+number_at-take : (n m : ℕ) (l : List ℕ) (j : ℕ) → j + n ≤ m → number_at n (take m l) j ≡ number_at n l j
+unfolding number_at
+number_at-take zero m l j h = refl
+number_at-take (suc n) m l j h = λ k. get_or-take m l j 0 (omega arith) k + 256 * number_at-take n m l (j + 1) (omega arith) k
+
+-- the n bytes from place i on, taken for themselves
+pub number_taken : (n : ℕ) (l : List ℕ) (i : ℕ) → number_at n (take n (drop i l)) 0 ≡ number_at n l i
+number_taken n l i = number_at-take n n (drop i l) 0 (omega arith) ∙ sym (number_at-drop n l i 0) ∙ ap (number_at n l) (add-zero i)
+
+-- the same, as the chunk y that `first_chunk` found at the front of what begins at place i
+pub number_found : (n : ℕ) (l : List ℕ) (i : ℕ) {r : Option (Bor (List ℕ))} {y : Bor (List ℕ)} → let rest = take (length l - i) (drop i l) in
+    MatchOption r (length rest < n) (λ (z : Bor (List ℕ)). IsFirstChunk rest z.now n) → r ≡ Some y → number_at n y.now 0 ≡ number_at n l i
+number_found n l i {r} {y} m e =
+    let rest = take (length l - i) (drop i l) in
+    let chunk = subst (λ (r : Option (Bor (List ℕ))). MatchOption r (length rest < n) (λ (z : Bor (List ℕ)). IsFirstChunk rest z.now n)) e m in
+    ap (λ (q : List ℕ). number_at n q 0) (chunk.same ∙ ap (take n) (between_to_end l i (length l) (omega arith))) ∙ number_taken n l i
 
 -- ---- there and back
 pub number_of_bytes : (n x : ℕ) (l : List ℕ) → x < 256 ^ n → number_at n (bytes_of n x ++ l) 0 ≡ x
