@@ -2,15 +2,17 @@
 -- it was read from. Assumes nothing.
 use Prim.Native.Nat.{ℕ, zero, suc, ◌+◌, ◌*◌, ◌-◌, ◌/◌, ◌%◌, ◌^◌, ◌≤◌, ◌<◌}
 use mathlib.Core.Path.{◌≡◌, refl, sym, ap, ◌∙◌, subst}
-use mathlib.Core.List.{List, ◌∷◌, ◌++◌}
+use mathlib.Core.List.{List, [], ◌∷◌, ◌++◌}
 use native.Mathlib.Decide.{dec_lt}
 use native.Mathlib.Nat.{add-zero, sub-zero, zero-lt-suc, div-lt_iff_lt-mul, pow-suc}
+use Rattle.std.proofs.lemmas.List.{append-nil, take_all, length-set}
+use borrow.Rule.Slice.PartMut.{put_mid}
 use native.Mathlib.Numerals.{add-one}
 use native.Mathlib.Omega.{arith}
-use lib.ListN.{length, get_or, take, drop, set, length-take, get_or-eq_default}
-use lib.Seq.{drop-cons, get_or-take, get_or-drop, sets}
+use lib.ListN.{length, get_or, take, drop, set, length-take, get_or-eq_default, drop_of_length-le}
+use lib.Seq.{drop-cons, get_or-take, get_or-drop, sets, sets-eq}
 use Rattle.std.proofs.Common.{Option, Some, Bor}
-use Rattle.std.proofs.lemmas.Slice.{between_to_end}
+use Rattle.std.proofs.lemmas.Slice.{between_to_end, put_mid-paste}
 use Rattle.std.specs.Array.{IsFirstChunk}
 use Rattle.std.specs.Option.{MatchOption}
 use Rattle.little_endian.specs.Bytes.{bytes_of, number_at}
@@ -88,23 +90,45 @@ bytes_of_number (suc n) l i b h =
     high : (get_or l i 0 + 256 * rest) / 256 ≡ rest
     high = omega (arith, b.at i)
 
--- ---- the loop that stores a number's bytes: the n - k that are left, of what is left of the number
-pub bytes_none : (out : List ℕ) (at n x : ℕ) → sets out (at + 0) (bytes_of (n - 0) x) ≡ sets out at (bytes_of n x)
-bytes_none out at n x = λ j. sets out (add-zero at j) (bytes_of (sub-zero n j) x)
+-- ---- bytes put into a part of a list
+pub part_put : (i n : ℕ) (l p : List ℕ) {y : List ℕ} → y ≡ p → length p ≡ n → i + n ≤ length l → put_mid i n l y ≡ sets l i p
+part_put i n l p {y} e m h =
+    put_mid-paste i n l y p n e refl (sym m)
+    ∙ (λ j. (take i l ++ take_all n p (omega (arith, m)) j) ++ drop (i + sym m j) l)
+    ∙ sym (sets-eq p l i (omega (arith, m)))
 
-pub bytes_step : (out : List ℕ) (at n k rest : ℕ) → k < n
-    → sets (set out (at + k) (rest % 256)) (at + (k + 1)) (bytes_of (n - (k + 1)) (rest / 256)) ≡ sets out (at + k) (bytes_of (n - k) rest)
+pub length_sets : (l : List ℕ) (i : ℕ) (p : List ℕ) → length (sets l i p) ≡ length l
+length_sets l i [] = refl
+length_sets l i (x ∷ p) = length_sets (set l i x) (suc i) p ∙ length-set l i x
+
+-- a list stored over one of its length
+pub sets_whole : (l p : List ℕ) → length p ≡ length l → sets l 0 p ≡ p
+sets_whole l p e =
+    sets-eq p l 0 (omega (arith, e)) ∙ ap (λ (m : List ℕ). p ++ m) (drop_of_length-le l {i = 0 + length p} (omega (arith, e))) ∙ append-nil p
+
+-- ---- the loop that stores a number's bytes: the n - k that are left, of what is left of the number
+pub bytes_none : (out : List ℕ) (n x : ℕ) → sets out 0 (bytes_of (n - 0) x) ≡ sets out 0 (bytes_of n x)
+bytes_none out n x = λ j. sets out 0 (bytes_of (sub-zero n j) x)
+
+pub bytes_step : (out : List ℕ) (n k rest : ℕ) → k < n → sets (set out k (rest % 256)) (k + 1) (bytes_of (n - (k + 1)) (rest / 256)) ≡ sets out k (bytes_of (n - k) rest)
 unfolding bytes_of
-bytes_step out at n k rest h =
-    ap (λ (i : ℕ). sets (set out (at + k) (rest % 256)) i (bytes_of (n - (k + 1)) (rest / 256))) (omega arith)
-    ∙ ap (λ (m : ℕ). sets out (at + k) (bytes_of m rest)) more
+bytes_step out n k rest h =
+    ap (λ (i : ℕ). sets (set out k (rest % 256)) i (bytes_of (n - (k + 1)) (rest / 256))) (omega arith)
+    ∙ ap (λ (m : ℕ). sets out k (bytes_of m rest)) more
   where
     more : suc (n - (k + 1)) ≡ n - k
     more = omega arith
 
-pub put_end : (out : List ℕ) (at n k rest : ℕ) → n ≤ k → out ≡ sets out at (bytes_of (n - k) rest)
+pub length_bytes : (n x : ℕ) → length (bytes_of n x) ≡ n
 unfolding bytes_of
-put_end out at n k rest h = ap (λ (m : ℕ). sets out at (bytes_of m rest)) none
+length_bytes zero x = refl
+length_bytes (suc n) x = ap suc (length_bytes n (x / 256))
+
+-- as many bytes as the list has: they are all that it holds then
+pub put_end : (out before : List ℕ) (k x rest : ℕ) → length before ≤ k → sets out k (bytes_of (length before - k) rest) ≡ sets before 0 (bytes_of (length before) x) → out ≡ bytes_of (length before) x
+unfolding bytes_of
+put_end out before k x rest h e =
+    ap (λ (m : ℕ). sets out k (bytes_of m rest)) none ∙ e ∙ sets_whole before (bytes_of (length before) x) (length_bytes (length before) x)
   where
-    none : 0 ≡ n - k
+    none : 0 ≡ length before - k
     none = omega arith

@@ -24,16 +24,14 @@ pub fn four(bytes: &[u8], at: usize) -> usize
     u32::from_le_bytes(*bytes[at..].first_chunk().unwrap()) as usize
 }
 
-// The n bytes of a number, into `out` from `at` on. Byte after byte, since n may be any number, and
-// `to_le_bytes` gives as many as its type has. The low byte fits, as is proved.
-// A list comes with a place in it, and is no part cut from it (docs/DECISIONS.md, "Lent lists").
-pub fn put(out: &mut [u8], at: usize, n: usize, value: usize)
-    requires { at + n ≤ length out.old }
-    ensures { out.new ≡ sets out.old at (bytes_of n value) }
+// A number's low bytes, as many as `out` has. Byte after byte, since these may be any number, and `to_le_bytes` gives as many as its type has. The low
+// byte fits, as is proved.
+pub fn put(out: &mut [u8], value: usize)
+    ensures { out.new ≡ bytes_of (length out.old) value }
 {
     let mut rest = value;
-    for k in 0..n {
-        out[at + k] = (rest % 256) as u8;
+    for byte in out {
+        *byte = (rest % 256) as u8;
         rest /= 256;
     }
 }

@@ -175,19 +175,18 @@ pub fn read_mosaic(store: &[u8], mosaic: &mut [u16]) -> Result<Fields, Refusal>
 
 // ---- the writer
 
-// The trailer, into `out` from `at` on; `back` is the distance back.
-// A list comes with a place in it, and is no part cut from it (docs/DECISIONS.md, "Lent lists").
-fn put_trailer(f: Fields, back: usize, out: &mut [u8], at: usize)
-    requires at_in_bounds { at + 12 ≤ length out.old }
+// The trailer; `back` is the distance back.
+fn put_trailer(f: Fields, back: usize, out: &mut [u8])
+    requires twelve { length out.old ≡ 12 }
     requires back_value { back ≡ distance f }
-    ensures { out.new ≡ sets out.old at (trailer f) }
+    ensures { out.new ≡ trailer f }
 {
-    little_endian::put(out, at, 2, f.shape.width);
-    little_endian::put(out, at + 2, 2, f.shape.height);
-    little_endian::put(out, at + 4, 1, usize::from(f.shape.layout));
-    little_endian::put(out, at + 5, 1, usize::from(f.settings.rounds));
-    little_endian::put(out, at + 6, 2, usize::from(f.settings.threshold));
-    little_endian::put(out, at + 8, 4, back);
+    little_endian::put(&mut out[0..2], f.shape.width);
+    little_endian::put(&mut out[2..4], f.shape.height);
+    out[4] = f.shape.layout;
+    out[5] = f.settings.rounds;
+    little_endian::put(&mut out[6..8], usize::from(f.settings.threshold));
+    little_endian::put(&mut out[8..12], back);
 }
 
 // Questions 1, 2, 3, 4, 5, 6, 9 and 14.
@@ -219,7 +218,7 @@ pub fn write_packet(f: Fields, samples: &[u16], out: &mut [u8]) -> Result<usize,
     let at = 2 * samples.len();
     let written = at + 12;
     little_endian::write_samples(samples, out);
-    put_trailer(f, written, out, at);
+    put_trailer(f, written, &mut out[at..written]);
     Ok(written)
 }
 
