@@ -3,9 +3,8 @@ use Rattle.std.specs.Prelude.{cond, List, ℕ, ltb, Float}
 use Rattle.planes.specs.Planes.{Frame, Planes}
 use Rattle.questions.specs.Calls.{Call, plain_call}
 use Rattle.questions.specs.declared.Settings.{Settings}
-use Rattle.spot.specs.Spot.{spot, kept, reading}
+use Rattle.spot.specs.Spot.{Spot, spot, kept, reading}
 use Rattle.spot.specs.Calls.{SpotGiven, spot_given, spot_call, sums_of}
-use Rattle.spot.specs.declared.Spot.{Spot}
 use Rattle.spot.specs.declared.Reading.{Reading}
 use Rattle.spot.specs.declared.Reading.TheVariants as spot_reading
 use Rattle.packet.specs.Packet.{distance, fields_of, repeats}

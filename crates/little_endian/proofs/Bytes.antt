@@ -2,13 +2,19 @@
 -- it was read from. Assumes nothing.
 use Prim.Native.Nat.{ℕ, zero, suc, ◌+◌, ◌*◌, ◌-◌, ◌/◌, ◌%◌, ◌^◌, ◌≤◌, ◌<◌}
 use mathlib.Core.Path.{◌≡◌, refl, sym, ap, ◌∙◌, subst}
-use mathlib.Core.List.{List, ◌∷◌, ◌++◌}
+use mathlib.Core.List.{List, [], ◌∷◌, ◌++◌}
 use native.Mathlib.Decide.{dec_lt}
 use native.Mathlib.Nat.{add-zero, sub-zero, zero-lt-suc, div-lt_iff_lt-mul, pow-suc}
+use Rattle.std.proofs.lemmas.List.{append-nil, take_all, length-set}
+use borrow.Rule.Slice.PartMut.{put_mid}
 use native.Mathlib.Numerals.{add-one}
 use native.Mathlib.Omega.{arith}
-use lib.ListN.{length, get_or, take, drop, set, length-take, get_or-eq_default}
-use lib.Seq.{drop-cons, get_or-take, get_or-drop, sets}
+use lib.ListN.{length, get_or, take, drop, set, length-take, get_or-eq_default, drop_of_length-le}
+use lib.Seq.{drop-cons, get_or-take, get_or-drop, sets, sets-eq}
+use Rattle.std.proofs.Common.{Option, Some, Bor}
+use Rattle.std.proofs.lemmas.Slice.{between_to_end, put_mid-paste}
+use Rattle.std.specs.Array.{IsFirstChunk}
+use Rattle.std.specs.Option.{MatchOption}
 use Rattle.little_endian.specs.Bytes.{bytes_of, number_at}
 
 -- every element is below n; 0 stands for those outside
@@ -42,6 +48,23 @@ number_at-drop (suc n) l i j =
 pub number_at_cons : (n b : ℕ) (l : List ℕ) (j : ℕ) → number_at n (b ∷ l) (suc j) ≡ number_at n l j
 number_at_cons n b l j = ap (number_at n (b ∷ l)) (omega arith) ∙ number_at-drop n (b ∷ l) 1 j
 
+number_at-take : (n m : ℕ) (l : List ℕ) (j : ℕ) → j + n ≤ m → number_at n (take m l) j ≡ number_at n l j
+unfolding number_at
+number_at-take zero m l j h = refl
+number_at-take (suc n) m l j h = λ k. get_or-take m l j 0 (omega arith) k + 256 * number_at-take n m l (j + 1) (omega arith) k
+
+-- the n bytes from place i on, taken for themselves
+pub number_taken : (n : ℕ) (l : List ℕ) (i : ℕ) → number_at n (take n (drop i l)) 0 ≡ number_at n l i
+number_taken n l i = number_at-take n n (drop i l) 0 (omega arith) ∙ sym (number_at-drop n l i 0) ∙ ap (number_at n l) (add-zero i)
+
+-- the same, as the chunk y that `first_chunk` found at the front of what begins at place i
+pub number_found : (n : ℕ) (l : List ℕ) (i : ℕ) {r : Option (Bor (List ℕ))} {y : Bor (List ℕ)} → let rest = take (length l - i) (drop i l) in
+    MatchOption r (length rest < n) (λ (z : Bor (List ℕ)). IsFirstChunk rest z.now n) → r ≡ Some y → number_at n y.now 0 ≡ number_at n l i
+number_found n l i {r} {y} m e =
+    let rest = take (length l - i) (drop i l) in
+    let chunk = subst (λ (r : Option (Bor (List ℕ))). MatchOption r (length rest < n) (λ (z : Bor (List ℕ)). IsFirstChunk rest z.now n)) e m in
+    ap (λ (q : List ℕ). number_at n q 0) (chunk.same ∙ ap (take n) (between_to_end l i (length l) (omega arith))) ∙ number_taken n l i
+
 -- ---- there and back
 pub number_of_bytes : (n x : ℕ) (l : List ℕ) → x < 256 ^ n → number_at n (bytes_of n x ++ l) 0 ≡ x
 unfolding number_at bytes_of
@@ -67,23 +90,45 @@ bytes_of_number (suc n) l i b h =
     high : (get_or l i 0 + 256 * rest) / 256 ≡ rest
     high = omega (arith, b.at i)
 
--- ---- the loop that stores a number's bytes: the n - k that are left, of what is left of the number
-pub bytes_none : (out : List ℕ) (at n x : ℕ) → sets out (at + 0) (bytes_of (n - 0) x) ≡ sets out at (bytes_of n x)
-bytes_none out at n x = λ j. sets out (add-zero at j) (bytes_of (sub-zero n j) x)
+-- ---- bytes put into a part of a list
+pub part_put : (i n : ℕ) (l p : List ℕ) {y : List ℕ} → y ≡ p → length p ≡ n → i + n ≤ length l → put_mid i n l y ≡ sets l i p
+part_put i n l p {y} e m h =
+    put_mid-paste i n l y p n e refl (sym m)
+    ∙ (λ j. (take i l ++ take_all n p (omega (arith, m)) j) ++ drop (i + sym m j) l)
+    ∙ sym (sets-eq p l i (omega (arith, m)))
 
-pub bytes_step : (out : List ℕ) (at n k rest : ℕ) → k < n
-    → sets (set out (at + k) (rest % 256)) (at + (k + 1)) (bytes_of (n - (k + 1)) (rest / 256)) ≡ sets out (at + k) (bytes_of (n - k) rest)
+pub length_sets : (l : List ℕ) (i : ℕ) (p : List ℕ) → length (sets l i p) ≡ length l
+length_sets l i [] = refl
+length_sets l i (x ∷ p) = length_sets (set l i x) (suc i) p ∙ length-set l i x
+
+-- a list stored over one of its length
+pub sets_whole : (l p : List ℕ) → length p ≡ length l → sets l 0 p ≡ p
+sets_whole l p e =
+    sets-eq p l 0 (omega (arith, e)) ∙ ap (λ (m : List ℕ). p ++ m) (drop_of_length-le l {i = 0 + length p} (omega (arith, e))) ∙ append-nil p
+
+-- ---- the loop that stores a number's bytes: the n - k that are left, of what is left of the number
+pub bytes_none : (out : List ℕ) (n x : ℕ) → sets out 0 (bytes_of (n - 0) x) ≡ sets out 0 (bytes_of n x)
+bytes_none out n x = λ j. sets out 0 (bytes_of (sub-zero n j) x)
+
+pub bytes_step : (out : List ℕ) (n k rest : ℕ) → k < n → sets (set out k (rest % 256)) (k + 1) (bytes_of (n - (k + 1)) (rest / 256)) ≡ sets out k (bytes_of (n - k) rest)
 unfolding bytes_of
-bytes_step out at n k rest h =
-    ap (λ (i : ℕ). sets (set out (at + k) (rest % 256)) i (bytes_of (n - (k + 1)) (rest / 256))) (omega arith)
-    ∙ ap (λ (m : ℕ). sets out (at + k) (bytes_of m rest)) more
+bytes_step out n k rest h =
+    ap (λ (i : ℕ). sets (set out k (rest % 256)) i (bytes_of (n - (k + 1)) (rest / 256))) (omega arith)
+    ∙ ap (λ (m : ℕ). sets out k (bytes_of m rest)) more
   where
     more : suc (n - (k + 1)) ≡ n - k
     more = omega arith
 
-pub put_end : (out : List ℕ) (at n k rest : ℕ) → n ≤ k → out ≡ sets out at (bytes_of (n - k) rest)
+pub length_bytes : (n x : ℕ) → length (bytes_of n x) ≡ n
 unfolding bytes_of
-put_end out at n k rest h = ap (λ (m : ℕ). sets out at (bytes_of m rest)) none
+length_bytes zero x = refl
+length_bytes (suc n) x = ap suc (length_bytes n (x / 256))
+
+-- as many bytes as the list has: they are all that it holds then
+pub put_end : (out before : List ℕ) (k x rest : ℕ) → length before ≤ k → sets out k (bytes_of (length before - k) rest) ≡ sets before 0 (bytes_of (length before) x) → out ≡ bytes_of (length before) x
+unfolding bytes_of
+put_end out before k x rest h e =
+    ap (λ (m : ℕ). sets out k (bytes_of m rest)) none ∙ e ∙ sets_whole before (bytes_of (length before) x) (length_bytes (length before) x)
   where
-    none : 0 ≡ n - k
+    none : 0 ≡ length before - k
     none = omega arith

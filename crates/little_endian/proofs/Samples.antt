@@ -7,6 +7,8 @@ use native.Mathlib.Nat.{add-zero}
 use native.Mathlib.Numerals.{add-one}
 use native.Mathlib.Omega.{arith}
 use lib.ListN.{length, get_or, take, drop, length-take, drop_of_length-le}
+use Rattle.std.proofs.lemmas.List.{drop-drop}
+use Rattle.std.specs.Simd.{first_chunks}
 use lib.Seq.{drop-cons, get_or-take, sets, sets-eq}
 use lib.Dec.{eqb}
 use lib.Pointwise.{pointwise}
@@ -17,7 +19,7 @@ use Rattle.std.proofs.lemmas.Slice.Eq.{slice_eq-Decides, compares_Decides}
 use Rattle.integers.specs.Lists.{tabulate, overwrite, same_list}
 use Rattle.integers.proofs.Lists.{length-tabulate, tabulate_cons, tabulate_cong, overwrite_all}
 use Rattle.little_endian.specs.Bytes.{bytes_of, number_at, sample_bytes, sample_at, samples_in}
-use Rattle.little_endian.proofs.Bytes.{Below, below_take, number_at_cons}
+use Rattle.little_endian.proofs.Bytes.{Below, below_take, number_at_cons, number_taken}
 
 -- ---- lengths
 pub length-sample_bytes : (s : List ℕ) → length (sample_bytes s) ≡ 2 * length s
@@ -72,6 +74,20 @@ bytes_of_samples (x ∷ y ∷ l) (suc n) e b =
 
     high : (x + 256 * y) / 256 % 256 ≡ y
     high = omega (arith, b.at 0, b.at 1)
+
+-- ---- bytes two by two
+pairs_at : (n k : ℕ) (l : List ℕ) → k < n → get_or (first_chunks 2 n l) k [] ≡ take 2 (drop (2 * k) l)
+pairs_at zero k l h = absurd (omega arith)
+pairs_at (suc n) zero l h = refl
+pairs_at (suc n) (suc k) l h = pairs_at n k (drop 2 l) (omega arith) ∙ ap (take 2) (drop-drop (2 * k) 2 l ∙ ap (λ (i : ℕ). drop i l) (omega arith))
+
+-- the number in a pair is a sample
+pub pair_at : (l : List ℕ) (k : ℕ) {x : ℕ} {pairs : List (List ℕ)} → pairs ≡ first_chunks 2 (length l / 2) l → k < length l / 2
+    → x ≡ get_or (get_or pairs k []) 0 0 + get_or (get_or pairs k []) 1 0 * 256 → x ≡ sample_at l k
+unfolding number_at
+pair_at l k {x} {pairs} e h p =
+    let pair : get_or pairs k [] ≡ take 2 (drop (2 * k) l) = ap (λ (q : List (List ℕ)). get_or q k []) e ∙ pairs_at (length l / 2) k l h in
+    p ∙ omega arith ∙ ap (λ (q : List ℕ). number_at 2 q 0) pair ∙ number_taken 2 l (2 * k)
 
 -- ---- the loop that writes: the samples that are left
 pub write_step : (x s : List ℕ) (k m : ℕ) {y z : List ℕ} → k < length s → 2 * length s ≤ length x → m ≡ 2 → y ≡ z → z ≡ bytes_of 2 (get_or s k 0)

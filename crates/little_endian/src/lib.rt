@@ -12,7 +12,7 @@ pub fn two(bytes: &[u8], at: usize) -> u16
     requires { at + 1 < length bytes.now }
     ensures { result ≡ number_at 2 bytes.now at }
 {
-    u16::from_le_bytes([bytes[at], bytes[at + 1]])
+    u16::from_le_bytes(*bytes[at..].first_chunk().unwrap())
 }
 
 // The number in the four bytes from `at` on.
@@ -21,19 +21,17 @@ pub fn four(bytes: &[u8], at: usize) -> usize
     ensures { result ≡ number_at 4 bytes.now at }
 {
     // std has no From of 32 bits to a `usize`
-    u32::from_le_bytes([bytes[at], bytes[at + 1], bytes[at + 2], bytes[at + 3]]) as usize
+    u32::from_le_bytes(*bytes[at..].first_chunk().unwrap()) as usize
 }
 
-// The n bytes of a number, into `out` from `at` on. Byte after byte, since n may be any number, and
-// `to_le_bytes` gives as many as its type has. The low byte fits, as is proved.
-// A list comes with a place in it, and is no part cut from it (docs/DECISIONS.md, "Lent lists").
-pub fn put(out: &mut [u8], at: usize, n: usize, value: usize)
-    requires { at + n ≤ length out.old }
-    ensures { out.new ≡ sets out.old at (bytes_of n value) }
+// A number's low bytes, as many as `out` has. Byte after byte, since these may be any number, and `to_le_bytes` gives as many as its type has. The low
+// byte fits, as is proved.
+pub fn put(out: &mut [u8], value: usize)
+    ensures { out.new ≡ bytes_of (length out.old) value }
 {
     let mut rest = value;
-    for k in 0..n {
-        out[at + k] = (rest % 256) as u8;
+    for byte in out {
+        *byte = (rest % 256) as u8;
         rest /= 256;
     }
 }
@@ -43,21 +41,23 @@ pub fn put(out: &mut [u8], at: usize, n: usize, value: usize)
 pub fn samples_within(top: u16, bytes: &[u8]) -> bool
     ensures { result ≡ all_at_most top (samples_in bytes.now) }
 {
-    let n = bytes.len() / 2;
+    let (pairs, _) = bytes.as_chunks::<2>();
     let mut most = 0;
-    for k in 0..n {
-        most = most.max(two(bytes, 2 * k));
+    for pair in pairs {
+        most = most.max(u16::from_le_bytes(*pair));
     }
     most <= top
 }
 
-// The samples that `bytes` hold, of which there are as many.
+// The samples that `bytes` hold, of which there are as many. No `zip`: its loop speaks of what two iterators yielded, where the index says what is
+// laid down.
 pub fn read_samples(bytes: &[u8], samples: &mut [u16])
     requires { length bytes.now ≡ 2 * length samples.old }
     ensures { samples.new ≡ samples_in bytes.now }
 {
+    let (pairs, _) = bytes.as_chunks::<2>();
     for (k, sample) in samples.iter_mut().enumerate() {
-        *sample = two(bytes, 2 * k);
+        *sample = u16::from_le_bytes(pairs[k]);
     }
 }
 

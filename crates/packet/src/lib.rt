@@ -12,7 +12,7 @@ ghost use Rattle.packet.specs.Calls.{store_questions, ceiling_question, read_que
 use questions::{Refusal, Settings, Shape};
 
 // Document 01's fields: what a packet's trailer says of its frame.
-#[derive(Clone, Copy, Debug, PartialEq, Eq)]
+#[derive(Clone, Copy, Debug, Default, PartialEq, Eq)]
 pub struct Fields {
     pub shape: Shape,
     pub settings: Settings,
@@ -60,14 +60,14 @@ impl Trailer<'_> {
     }
 }
 
-// The packet that ends a store: questions 11, 1, 2, 3, 4, 5, 12 and 13 are answered yes, and no sample has been looked at.
+// The packet found at a store's end: questions 11, 1, 2, 3, 4, 5, 12 and 13 are answered yes, and no sample has been looked at.
 #[derive(Clone, Copy)]
-struct Packet<'a> {
+struct Found<'a> {
     trailer: Trailer<'a>,
     ghost asked: { ask (store_questions trailer.store.now) ≡ 0 },
 }
 
-impl<'a> Packet<'a> {
+impl<'a> Found<'a> {
     // The part of the store that holds the samples, by the distance back.
     fn samples(&self) -> &'a [u8]
         ensures { result.now ≡ sample_part self.now.trailer.store.now }
@@ -93,7 +93,7 @@ impl<'a> Packet<'a> {
 }
 
 // Questions 11, 1, 2, 3, 4, 5, 12 and 13, and the packet where all are answered yes. No sample is looked at.
-fn ask_store(store: &[u8]) -> Result<Packet<'_>, Refusal>
+fn ask_store(store: &[u8]) -> Result<Found<'_>, Refusal>
     ensures number { number_of result ≡ ask (store_questions store.now) }
     ensures of_store { IfOk result (λ p. p.trailer.store.now ≡ store.now) }
 {
@@ -111,11 +111,11 @@ fn ask_store(store: &[u8]) -> Result<Packet<'_>, Refusal>
     if store.len() < back {
         return Err(Refusal::DistanceOutside);
     }
-    Ok(Packet { trailer })
+    Ok(Found { trailer })
 }
 
 // The reader's questions: 11, 1, 2, 3, 4, 5, 12, 13 and 9.
-fn ask_packet(store: &[u8]) -> Result<Packet<'_>, Refusal>
+fn ask_packet(store: &[u8]) -> Result<Found<'_>, Refusal>
     ensures number { number_of result ≡ ask (read_questions store.now) }
     ensures of_store { IfOk result (λ p. p.trailer.store.now ≡ store.now) }
 {
@@ -150,7 +150,7 @@ pub fn packet_samples(store: &[u8]) -> &[u8]
 }
 
 // Questions 11, 1, 2, 3, 4, 5, 12, 13, 7 and 9.
-fn ask_mosaic(store: &[u8], room: usize) -> Result<Packet<'_>, Refusal>
+fn ask_mosaic(store: &[u8], room: usize) -> Result<Found<'_>, Refusal>
     ensures number { number_of result ≡ ask (mosaic_questions store.now room) }
     ensures of_store { IfOk result (λ p. p.trailer.store.now ≡ store.now) }
 {
@@ -175,19 +175,18 @@ pub fn read_mosaic(store: &[u8], mosaic: &mut [u16]) -> Result<Fields, Refusal>
 
 // ---- the writer
 
-// The trailer, into `out` from `at` on; `back` is the distance back.
-// A list comes with a place in it, and is no part cut from it (docs/DECISIONS.md, "Lent lists").
-fn put_trailer(f: Fields, back: usize, out: &mut [u8], at: usize)
-    requires at_in_bounds { at + 12 ≤ length out.old }
+// The trailer; `back` is the distance back.
+fn put_trailer(f: Fields, back: usize, out: &mut [u8])
+    requires twelve { length out.old ≡ 12 }
     requires back_value { back ≡ distance f }
-    ensures { out.new ≡ sets out.old at (trailer f) }
+    ensures { out.new ≡ trailer f }
 {
-    little_endian::put(out, at, 2, f.shape.width);
-    little_endian::put(out, at + 2, 2, f.shape.height);
-    little_endian::put(out, at + 4, 1, usize::from(f.shape.layout));
-    little_endian::put(out, at + 5, 1, usize::from(f.settings.rounds));
-    little_endian::put(out, at + 6, 2, usize::from(f.settings.threshold));
-    little_endian::put(out, at + 8, 4, back);
+    little_endian::put(&mut out[0..2], f.shape.width);
+    little_endian::put(&mut out[2..4], f.shape.height);
+    out[4] = f.shape.layout;
+    out[5] = f.settings.rounds;
+    little_endian::put(&mut out[6..8], usize::from(f.settings.threshold));
+    little_endian::put(&mut out[8..12], back);
 }
 
 // Questions 1, 2, 3, 4, 5, 6, 9 and 14.
@@ -219,7 +218,7 @@ pub fn write_packet(f: Fields, samples: &[u16], out: &mut [u8]) -> Result<usize,
     let at = 2 * samples.len();
     let written = at + 12;
     little_endian::write_samples(samples, out);
-    put_trailer(f, written, out, at);
+    put_trailer(f, written, &mut out[at..written]);
     Ok(written)
 }
 

@@ -4,10 +4,6 @@ use questions::Refusal;
 use std::fmt::Display;
 use std::io;
 
-fn refused(rt: &impl Print, why: Refusal) -> io::Result<()> {
-    print!(rt; "refused {}", why.number())
-}
-
 fn fields(rt: &impl Print, f: Fields) -> io::Result<()> {
     let Fields { shape, settings } = f;
     print!(rt;
@@ -20,7 +16,7 @@ fn fields(rt: &impl Print, f: Fields) -> io::Result<()> {
 pub(crate) fn read(rt: &impl Print, answer: Result<Fields, Refusal>) -> io::Result<()> {
     match answer {
         Ok(f) => fields(rt, f)?,
-        Err(why) => refused(rt, why)?,
+        Err(why) => print!(rt; "{why}")?,
     }
     println!(rt)
 }
@@ -29,7 +25,7 @@ pub(crate) fn read(rt: &impl Print, answer: Result<Fields, Refusal>) -> io::Resu
 pub(crate) fn written(rt: &impl Print, answer: Result<usize, Refusal>) -> io::Result<()> {
     match answer {
         Ok(n) => print!(rt; "wrote {n}")?,
-        Err(why) => refused(rt, why)?,
+        Err(why) => print!(rt; "{why}")?,
     }
     println!(rt)
 }
@@ -38,7 +34,7 @@ pub(crate) fn repeats(rt: &impl Print, answer: Result<bool, Refusal>) -> io::Res
     match answer {
         Ok(true) => print!(rt; "yes"),
         Ok(false) => print!(rt; "no"),
-        Err(why) => refused(rt, why),
+        Err(why) => print!(rt; "{why}"),
     }
 }
 

@@ -126,7 +126,8 @@ pub fn put_frame(
     text.end
 }
 
-// A refusal's line, at the front of `out`; how many bytes. The rest of `out` stays.
+// A refusal's line, at the front of `out`; how many bytes. The rest of `out` stays. A number and no `Refusal`: the line of any number is promised, and a
+// refusal has 1 to 19 alone.
 pub fn put_refusal(out: &mut [u8], number: u32) -> usize
     requires { 14 ≤ length out.old }
     ensures { Written (refusal number) out.old result out.new }

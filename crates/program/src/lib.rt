@@ -25,7 +25,8 @@ fn read_input(input: &[u8]) -> Result<Fields, Refusal>
     Ok(f)
 }
 
-// The number of the program's refusal, 0 for an accepted input: question 17 of the bytes, the reader's, 17 of the samples.
+// The number of the program's refusal, 0 for an accepted input: question 17 of the bytes, the reader's, 17 of the samples. A number and no Result, since
+// what is promised of the program speaks of it (`program_questions`).
 pub fn program_refusal(input: &[u8]) -> u32
     ensures { result ≡ ask (program_questions input.now) }
 {

@@ -1,6 +1,6 @@
 -- Both round trips, of the reader in one answer: what reads back by the packet's reading calls reads back by `read`, and what `read` answered of a
 -- sound packet was read by them. Assumes nothing.
-use Rattle.std.proofs.Common.{◌≡◌, ◌∙◌, ℕ, zero, suc, List, ◌++◌, take, refl, sym, subst}
+use Rattle.std.proofs.Common.{◌≡◌, ◌∙◌, ℕ, List, ◌++◌, take, refl, sym, subst}
 use Rattle.questions.specs.Questions.{ask}
 use Rattle.std.proofs.Common.{Result, Ok, Err}
 use Rattle.questions.specs.declared.Refusal.{Refusal}

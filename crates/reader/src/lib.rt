@@ -2,10 +2,9 @@
 #![tactic(auto)]
 
 ghost use Rattle.std.specs.Prelude.{◌≡◌};
-ghost use Rattle.reader.specs.Reader.{fields_read, PacketRead};
+ghost use Rattle.reader.specs.Reader.{PacketRead};
 
 use packet::Fields;
-use questions::{Settings, Shape};
 
 // What the reader answers: the refusal number, 0 for a sound packet; the packet's fields; and the part of the store that holds its samples, two bytes
 // each. Where the packet is refused, every field is 0 and the part is empty. No Result: `read` promises fields and part of a refused packet too
@@ -17,36 +16,14 @@ pub struct Packet<'a> {
     pub samples: &'a [u8],
 }
 
-// The packet's fields.
-fn fields_read(store: &[u8]) -> Fields
-    ensures { result ≡ fields_read store.now }
-{
-    match packet::read_packet(store) {
-        Ok(fields) => fields,
-        Err(_) => Fields {
-            shape: Shape {
-                width: 0,
-                height: 0,
-                layout: 0,
-            },
-            settings: Settings {
-                rounds: 0,
-                threshold: 0,
-            },
-        },
-    }
-}
-
 // The reader.
-pub fn read<'a>(store: &'a [u8]) -> Packet<'a>
+pub fn read(store: &[u8]) -> Packet<'_>
     ensures { PacketRead store.now result }
 {
-    let number = packet::packet_refusal(store);
-    let fields = fields_read(store);
-    let samples = packet::packet_samples(store);
+    let answer = packet::read_packet(store);
     Packet {
-        number,
-        fields,
-        samples,
+        number: questions::number(answer),
+        fields: answer.unwrap_or_default(),
+        samples: packet::packet_samples(store),
     }
 }

@@ -7,12 +7,11 @@ use Rattle.std.proofs.Common.{Result, Ok}
 use Rattle.questions.specs.Questions.{ask}
 use Rattle.questions.specs.Refusals.{refusal_number, number_of}
 use Rattle.questions.specs.declared.Refusal.{Refusal}
-use Rattle.spot.specs.Spot.{next_kept, reading}
+use Rattle.spot.specs.Spot.{Sums, next_kept, reading}
 use Rattle.questions.proofs.Asking.{all_yes}
 use Rattle.questions.proofs.Answering.{refusal_positive, refuses, accepts, old_left}
 use Rattle.window.proofs.Room.{room_of}
 use Rattle.spot.specs.Calls.{SpotGiven, spot_questions, questions_of, spot_call, Small, SpotResult, PlanesRoom, PlaneSums}
-use Rattle.spot.specs.declared.Sums.{Sums}
 use Rattle.spot.specs.declared.Kept.{Kept}
 use Rattle.spot.specs.declared.Reading.{Reading}
 

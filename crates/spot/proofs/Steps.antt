@@ -1,9 +1,7 @@
 -- The laws of a step: what a lit frame leaves and answers, and what an unlit one does. Assumes nothing.
 use mathlib.Core.Path.{◌≡◌, refl, sym, ap, ◌∙◌}
 use mathlib.Core.Bool.{Bool, true, false, cond}
-use Rattle.spot.specs.Spot.{spot_of, smooth_spot, is_lit, kept, lit_spot, next_kept, reading}
-use Rattle.spot.specs.declared.Spot.{Spot}
-use Rattle.spot.specs.declared.Sums.{Sums}
+use Rattle.spot.specs.Spot.{Spot, Sums, spot_of, smooth_spot, is_lit, kept, lit_spot, next_kept, reading}
 use Rattle.spot.specs.declared.Kept.{Kept}
 use Rattle.spot.specs.declared.Reading.TheVariants.{Starting, Dark, Steady}
 

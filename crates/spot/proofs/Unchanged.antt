@@ -12,10 +12,9 @@ use Rattle.questions.specs.Calls.{if_accepted}
 use Rattle.questions.proofs.Answering.{left_yes}
 use Rattle.window.specs.Window.{largest_sum}
 use Rattle.smoothing.proofs.Same.{smooth-sum}
-use Rattle.spot.specs.Spot.{start, spot, spot_of, smooth_spot, is_lit, lit_spot, next_kept, reading}
+use Rattle.spot.specs.Spot.{Sums, start, spot, spot_of, smooth_spot, is_lit, lit_spot, next_kept, reading}
 use Rattle.spot.specs.Calls.{questions_of, sums_of, Small, SpotResult}
 use Rattle.spot.specs.Histories.{SpotRun, SpotHistory, last_kept, lit_frame, lit_seen, SameSums, AllSameSums, standing, steady_reading}
-use Rattle.spot.specs.declared.Sums.{Sums}
 use Rattle.spot.specs.declared.Kept.{Kept}
 use Rattle.spot.proofs.Steps.{lit_kept, lit_reading, unlit_kept, unlit_reading}
 

@@ -5,8 +5,7 @@ use Rattle.questions.specs.Questions.{Question, question, ask, size_questions}
 use Rattle.questions.specs.declared.Refusal.{Refusal}
 use Rattle.questions.specs.Calls.{Call, Outcome}
 use Rattle.window.specs.Window.{window_sum, window_inside, largest_sum, WindowRoom}
-use Rattle.spot.specs.Spot.{next_kept, reading}
-use Rattle.spot.specs.declared.Sums.{Sums}
+use Rattle.spot.specs.Spot.{Sums, next_kept, reading}
 use Rattle.spot.specs.declared.Kept.{Kept}
 use Rattle.spot.specs.declared.Reading.{Reading}
 

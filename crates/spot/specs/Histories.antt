@@ -2,9 +2,8 @@
 use Rattle.std.specs.Prelude.{◌≡◌, Bool, true, false, ◌||◌, Result, List, [], ◌∷◌}
 use Rattle.questions.specs.declared.Refusal.{Refusal}
 use Rattle.questions.specs.Calls.{if_accepted}
-use Rattle.spot.specs.Spot.{start, kept, spot_of, is_lit}
+use Rattle.spot.specs.Spot.{Sums, start, kept, spot_of, is_lit}
 use Rattle.spot.specs.Calls.{SpotGiven, questions_of, sums_of, SpotResult}
-use Rattle.spot.specs.declared.Sums.{Sums}
 use Rattle.spot.specs.declared.Kept.{Kept}
 use Rattle.spot.specs.declared.Reading.{Reading}
 use Rattle.spot.specs.declared.Reading.TheVariants.{Starting, Dark, Steady}

@@ -1,11 +1,17 @@
 -- Document 02, "Spot reading": what a frame's sums make of the spot that was kept, and the frame's reading. Assumes nothing.
-use Rattle.std.specs.Prelude.{Bool, true, false, cond, ltb, Float}
+use Rattle.std.specs.Prelude.{ℕ, Bool, true, false, cond, ltb, Float}
 use Rattle.smoothing.specs.Smoothing.{smooth, float_of}
-use Rattle.spot.specs.declared.Spot.{Spot}
-use Rattle.spot.specs.declared.Sums.{Sums}
+use Rattle.spot.specs.declared.Colours.{Colours}
 use Rattle.spot.specs.declared.Kept.{Kept}
 use Rattle.spot.specs.declared.Reading.{Reading}
 use Rattle.spot.specs.declared.Reading.TheVariants.{Starting, Dark, Steady}
+
+-- a spot, and a frame's sums
+abbrev pub Spot : Type 0
+Spot = Colours Float
+
+abbrev pub Sums : Type 0
+Sums = Colours ℕ
 
 abbrev pub spot : Float → Float → Float → Spot
 spot red green blue = record { red = red; green = green; blue = blue }

@@ -10,21 +10,19 @@ ghost use Rattle.spot.specs.Calls.{spot_questions, spot_given, PlanesRoom, Plane
 
 use questions::Refusal;
 
-// A spot: three sums as floats, as they stand or smoothed.
+// One each for red, green and blue: floats, sums or lengths.
 #[derive(Clone, Copy)]
-pub struct Spot {
-    pub red: f64,
-    pub green: f64,
-    pub blue: f64,
+pub struct Colours<T> {
+    pub red: T,
+    pub green: T,
+    pub blue: T,
 }
 
+// A spot: three sums as floats, as they stand or smoothed.
+pub type Spot = Colours<f64>;
+
 // A frame's sums over the window.
-#[derive(Clone, Copy)]
-pub struct Sums {
-    pub red: u32,
-    pub green: u32,
-    pub blue: u32,
-}
+pub type Sums = Colours<u32>;
 
 // What is kept between frames: the spot, and whether a lit frame has come. No Option: document 02 keeps three zeros until then, and `read_spot` keeps whatever
 // floats it is given so (`SpotResult`, `spot_unchanged`).
@@ -34,6 +32,7 @@ pub struct Kept {
     pub lit: bool,
 }
 
+// What a call answers of its frame.
 #[derive(Clone, Copy)]
 pub enum Reading {
     // No lit frame so far, this one included.
@@ -44,15 +43,15 @@ pub enum Reading {
     Steady(Spot),
 }
 
-impl Sums {
-    // The sums as floats, exactly.
-    fn spot(self) -> Spot
-        ensures { result ≡ spot_of self }
-    {
+// The sums as floats, exactly.
+impl From<Sums> for Spot {
+    ghost from_gives = { λ sums spot. spot ≡ spot_of sums };
+
+    fn from(sums: Sums) -> Spot {
         Spot {
-            red: f64::from(self.red),
-            green: f64::from(self.green),
-            blue: f64::from(self.blue),
+            red: f64::from(sums.red),
+            green: f64::from(sums.green),
+            blue: f64::from(sums.blue),
         }
     }
 }
@@ -90,7 +89,7 @@ impl Kept {
         ensures { result ≡ lit_spot self sums }
     {
         let old = self.spot;
-        let new = sums.spot();
+        let new = Spot::from(sums);
         if self.lit {
             return old.smoothed(new);
         }
@@ -118,23 +117,21 @@ impl Kept {
 fn ask_spot(
     width: usize,
     height: usize,
-    red: usize,
-    green: usize,
-    blue: usize,
+    lengths: Colours<usize>,
     row: usize,
     column: usize,
 ) -> Result<(), Refusal>
-    ensures { number_of result ≡ ask (spot_questions width height (planes red green blue) row column) }
+    ensures { number_of result ≡ ask (spot_questions width height (planes lengths.red lengths.green lengths.blue) row column) }
 {
     questions::ask_sizes(2, width, height)?;
     let count = width * height;
-    if red != count {
+    if lengths.red != count {
         return Err(Refusal::GivenLength);
     }
-    if green != count {
+    if lengths.green != count {
         return Err(Refusal::GivenLength);
     }
-    if blue != count {
+    if lengths.blue != count {
         return Err(Refusal::GivenLength);
     }
     if !window::inside(width, height, row, column) {
@@ -177,14 +174,11 @@ pub fn read_spot(
 ) -> Result<Reading, Refusal>
     ensures { SpotResult (spot_given width height (planes red.now green.now blue.now) row column kept.old) result kept.new }
 {
-    ask_spot(
-        width,
-        height,
-        red.len(),
-        green.len(),
-        blue.len(),
-        row,
-        column,
-    )?;
+    let lengths = Colours {
+        red: red.len(),
+        green: green.len(),
+        blue: blue.len(),
+    };
+    ask_spot(width, height, lengths, row, column)?;
     Ok(kept.next(plane_sums(width, red, green, blue, row, column)))
 }

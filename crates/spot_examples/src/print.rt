@@ -41,7 +41,7 @@ pub(crate) fn answer(
 ) -> io::Result<()> {
     match answer {
         Ok(r) => reading(rt, r)?,
-        Err(why) => print!(rt; "refused {}", why.number())?,
+        Err(why) => print!(rt; "{why}")?,
     }
     kept(rt, k)
 }

@@ -33,7 +33,7 @@ pub record WindowSum (plane : ℕ → ℕ → ℕ) (row column r : ℕ) : Type 0
   pub sum : r ≡ window_sum plane row column
   pub small : r ≤ largest_sum
 
--- r is the sum of a row of the window, from place `from` of a list on
-pub record RowSum (plane : List ℕ) (from r : ℕ) : Type 0 where
-  pub sum : r ≡ total side (λ j. get_or plane (from + j) 0)
+-- r is the sum of a row of the window
+pub record RowSum (row : List ℕ) (r : ℕ) : Type 0 where
+  pub sum : r ≡ total side (λ j. get_or row j 0)
   pub small : r ≤ side * 65535

@@ -5,13 +5,13 @@ ghost use Rattle.std.specs.Prelude.{◌≡◌, ◌+◌, ◌≤◌, length};
 ghost use Rattle.planes.specs.Planes.{plane_of};
 ghost use Rattle.window.specs.Window.{window_inside, WindowRoom, WindowSum, RowSum};
 
-// A row of the window: 32 samples from place `from` on.
-fn row_sum(plane: &[u16], from: usize) -> u32
-    requires { from + 32 ≤ length plane.now }
-    ensures { RowSum plane.now from result }
+// A row of the window: its 32 samples.
+fn row_sum(row: &[u16]) -> u32
+    requires { length row.now ≡ 32 }
+    ensures { RowSum row.now result }
 {
     let mut sum = 0;
-    for sample in &plane[from..from + 32] {
+    for sample in row {
         sum += u32::from(*sample);
     }
     sum
@@ -24,7 +24,8 @@ pub fn window_sum(width: usize, plane: &[u16], row: usize, column: usize) -> u32
 {
     let mut sum = 0;
     for i in 0..32 {
-        sum += row_sum(plane, (row + i) * width + column);
+        let from = (row + i) * width + column;
+        sum += row_sum(&plane[from..from + 32]);
     }
     sum
 }

@@ -1,19 +1,16 @@
 -- `little_endian::put` meets its contract: the bytes that are left to store, stored, make what is promised.
 use mathlib.Core.Path.{◌∙◌}
-use Prim.Native.Nat.{◌+◌}
 use native.Mathlib.Omega.{arith}
+use lib.ListN.{length}
 use Rattle.little_endian.proofs.Bytes.{bytes_none, bytes_step, put_end}
 use Rattle.little_endian.proofs.put.Goals as goal
 
-pub loop-k-init : goal.loop-k-init
-loop-k-init c = bytes_none _ _ _ _
+pub loop-byte-init : goal.loop-byte-init
+loop-byte-init c = bytes_none _ _ _
 
-pub loop-k-preserved : goal.loop-k-preserved
-loop-k-preserved c =
-    let a = c.args in
-    bytes_step c.loop-k.out a.at a.n c.loop-k.k c.loop-k.rest (omega arith) ∙ c.loop-k.invariant
+pub loop-byte-preserved : goal.loop-byte-preserved
+loop-byte-preserved c =
+    bytes_step c.loop-byte.byte-items (length c.args.out.now) c.loop-byte.byte-index c.loop-byte.rest (omega arith) ∙ c.loop-byte.invariant
 
 pub returns : goal.returns
-returns c =
-    let a = c.args in
-    put_end c.loop-k.out (a.at + c.loop-k.k) a.n c.loop-k.k c.loop-k.rest (omega arith) ∙ c.loop-k.invariant
+returns c = put_end c.loop-byte.byte-items c.args.out.now c.loop-byte.byte-index c.args.value c.loop-byte.rest (omega arith) c.loop-byte.invariant

@@ -8,19 +8,22 @@ use Rattle.integers.specs.Lists.{tabulate}
 use Rattle.questions.specs.Questions.{all_at_most}
 use Rattle.questions.proofs.Asking.{scan_none, scan_more}
 use Rattle.little_endian.specs.Bytes.{sample_at, samples_in}
+use Rattle.little_endian.proofs.Samples.{pair_at}
 use Rattle.little_endian.proofs.samples_within.Goals as goal
 
-pub loop-k-init : goal.loop-k-init
-loop-k-init c = scan_none c.args.top _
+pub loop-pair-init : goal.loop-pair-init
+loop-pair-init c = scan_none c.args.top _
 
-pub loop-k-preserved : goal.loop-k-preserved
-loop-k-preserved c =
-    let a = c.args in
-    scan_more a.top c.loop-k.most c.loop-k.k (sample_at a.bytes.now) c.loop-k.invariant c.two.ensures (search rules)
+pub loop-pair-preserved : goal.loop-pair-preserved
+loop-pair-preserved c =
+    let bytes = c.args.bytes.now in
+    let k = c.loop-pair.pair-index in
+    let pairs = c.as_chunks.ensures in
+    scan_more c.args.top c.loop-pair.most k (sample_at bytes) c.loop-pair.invariant (pair_at bytes k pairs.front (omega (arith, pairs.front_len)) c.from_le_bytes.ensures) (search rules)
 
 pub returns : goal.returns
 unfolding samples_in
 returns c =
     let a = c.args in
-    let all : c.loop-k.k ≡ length a.bytes.now / 2 = omega arith in
-    c.loop-k.invariant ∙ ap (λ (n : ℕ). all_at_most a.top (tabulate n (sample_at a.bytes.now))) all
+    let all : c.loop-pair.pair-index ≡ length a.bytes.now / 2 = omega (arith, c.as_chunks.ensures.front_len) in
+    c.loop-pair.invariant ∙ ap (λ (n : ℕ). all_at_most a.top (tabulate n (sample_at a.bytes.now))) all

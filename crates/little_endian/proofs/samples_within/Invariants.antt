@@ -6,5 +6,5 @@ use Rattle.questions.specs.Questions.{all_at_most}
 use Rattle.little_endian.specs.Bytes.{sample_at}
 use Rattle.little_endian.proofs.samples_within.Given as goal
 
-abbrev pub invariant-loop-k : goal.invariant-loop-k
-invariant-loop-k l = leb l.most l.top ≡ all_at_most l.top (tabulate l.k (sample_at l.bytes))
+abbrev pub invariant-loop-pair : goal.invariant-loop-pair
+invariant-loop-pair l = leb l.most l.top ≡ all_at_most l.top (tabulate l.pair-index (sample_at l.bytes))

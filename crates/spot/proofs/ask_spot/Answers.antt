@@ -11,14 +11,14 @@ returns-in_err-ask_sizes c = refused-first _ _ _ _ (search rules) c.in_err-ask_s
 pub overflow_mul-count : goal.overflow_mul-count
 overflow_mul-count c = record { fits = omega (arith, (sizes_known _ _ _ _ _ c.in_ok-ask_sizes.ensures tt refl).area) }
 
-pub returns-then-red-count : goal.returns-then-red-count
-returns-then-red-count c = ask_then _ _ _ _ c.in_ok-ask_sizes.ensures tt refl (search asking depth 24)
+pub returns-then-lengths-count : goal.returns-then-lengths-count
+returns-then-lengths-count c = ask_then _ _ _ _ c.in_ok-ask_sizes.ensures tt refl (search asking depth 24)
 
-pub returns-then-green-count : goal.returns-then-green-count
-returns-then-green-count c = ask_then _ _ _ _ c.in_ok-ask_sizes.ensures tt refl (search asking depth 24)
+pub returns-then-lengths-count-2 : goal.returns-then-lengths-count-2
+returns-then-lengths-count-2 c = ask_then _ _ _ _ c.in_ok-ask_sizes.ensures tt refl (search asking depth 24)
 
-pub returns-then-blue-count : goal.returns-then-blue-count
-returns-then-blue-count c = ask_then _ _ _ _ c.in_ok-ask_sizes.ensures tt refl (search asking depth 24)
+pub returns-then-lengths-count-3 : goal.returns-then-lengths-count-3
+returns-then-lengths-count-3 c = ask_then _ _ _ _ c.in_ok-ask_sizes.ensures tt refl (search asking depth 24)
 
 pub returns-then-not-inside : goal.returns-then-not-inside
 returns-then-not-inside c =

@@ -4,6 +4,7 @@ use Prim.Native.Nat.{ℕ, ◌+◌, ◌*◌}
 use native.Mathlib.Nat.{add_assoc}
 use native.Mathlib.Omega.{arith}
 use lib.ListN.{get_or}
+use Rattle.std.proofs.lemmas.List.{get_or-take, get_or-drop}
 use Rattle.planes.specs.Planes.{plane_of}
 use Rattle.window.specs.Window.{side}
 use Rattle.window.proofs.Totals.{total_none, total_more, total_same}
@@ -20,6 +21,6 @@ loop-i-preserved c =
     let a = c.args in
     let from = (a.row + l.i) * a.width in (
       total_more l.i (Row a.width a.plane.now a.row a.column) l.invariant.0
-          (c.row_sum-sum.ensures.sum ∙ total_same side _ _ (λ j. ap (λ (k : ℕ). get_or a.plane.now k 0) (add_assoc from a.column j))),
+          (c.row_sum-sum.ensures.sum ∙ total_same side _ _ (λ j h. get_or-take _ _ j 0 (omega arith) ∙ get_or-drop (from + a.column) a.plane.now j 0 ∙ ap (λ (k : ℕ). get_or a.plane.now k 0) (add_assoc from a.column j))),
       omega (arith, l.invariant.1, c.row_sum-sum.ensures.small),
     )

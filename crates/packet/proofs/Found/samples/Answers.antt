@@ -1,9 +1,9 @@
--- `Packet::samples` meets its contract.
+-- `Found::samples` meets its contract.
 use mathlib.Core.Path.{sym}
 use native.Mathlib.Omega.{arith}
 use Rattle.packet.proofs.Stores.{Located, located, part_is}
-use Rattle.packet.proofs.Packet.samples.Goals as goal
-use Rattle.packet.proofs.Packet.samples.Goals.{Start}
+use Rattle.packet.proofs.Found.samples.Goals as goal
+use Rattle.packet.proofs.Found.samples.Goals.{Start}
 
 known : (c : goal.Start) → Located c.args.self.now.trailer.store.now
 known c = located _ (sym c.args.self.now.asked)

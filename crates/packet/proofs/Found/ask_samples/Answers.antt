@@ -1,4 +1,4 @@
--- `Packet::ask_samples` meets its contract.
+-- `Found::ask_samples` meets its contract.
 use mathlib.Core.Path.{◌≡◌, sym, ap, ◌∙◌}
 use Rattle.questions.specs.Settings.{ceiling_of}
 use Rattle.questions.specs.Questions.{all_at_most}
@@ -6,8 +6,8 @@ use Rattle.questions.proofs.Asking.{ask_no, ask_yes, ask_end}
 use Rattle.little_endian.specs.Bytes.{samples_in}
 use Rattle.packet.specs.Packet.{fields_of, samples_of}
 use Rattle.packet.specs.declared.Fields.{Fields}
-use Rattle.packet.proofs.Packet.ask_samples.Goals as goal
-use Rattle.packet.proofs.Packet.ask_samples.Goals.{After-samples_within}
+use Rattle.packet.proofs.Found.ask_samples.Goals as goal
+use Rattle.packet.proofs.Found.ask_samples.Goals.{After-samples_within}
 
 -- what the scan says of the store
 scanned : (c : goal.After-samples_within) → let s = c.args.self.now.trailer.store.now in
