@@ -17,7 +17,8 @@ use Rattle.integers.proofs.Tests.{is_true, true_is}
 use Rattle.integers.proofs.Lists.{length-tabulate, get_or-tabulate, tabulate_cong, tabulate-get_or, map-tabulate}
 use Rattle.planes.specs.Planes.{listing, plane_of, Sizes}
 use Rattle.planes.specs.Lists.{value}
-use Rattle.planes.proofs.Planes.{row_inside, column_inside, place_inside, length-listing, plane_of-listing, listing_agree}
+use Rattle.planes.proofs.Planes.{row_inside, column_inside, length-listing, plane_of-listing, listing_agree}
+use Rattle.std.proofs.lemmas.Nat.{mul-add-lt}
 use Rattle.questions.specs.Questions.{Question, question, ask, all_at_most, size_questions}
 use Rattle.questions.specs.Refusals.{Answer, number_of}
 use Rattle.questions.specs.Calls.{Outcome}
@@ -133,7 +134,7 @@ module _ (w h : ℕ) (given : List ℤ) (z : Sizes 1 w h) (p : Plane to_split gi
   bands_small : (r c : ℕ) → r < h → c < w
       → let s = split 1 w h (plane w given) r c in (nat_abs s.band1 ≤ to_join) × (nat_abs s.band2 ≤ to_join) × (nat_abs s.band3 ≤ to_join) × (nat_abs s.band4 ≤ to_join)
   unfolding plane_of
-  bands_small r c hr hc = split_range 1 w h to_split z.width_from z.height_from (plane w given) (λ i j hi hj. p.small (i * w + j) (place_inside hi hj)) r c hr hc
+  bands_small r c hr hc = split_range 1 w h to_split z.width_from z.height_from (plane w given) (λ i j hi hj. p.small (i * w + j) (mul-add-lt _ _ _ _ hi hj)) r c hr hc
 
   band_yes : (f : Bands ℤ → ℤ) → ((r c : ℕ) → r < h → c < w → nat_abs (f (split 1 w h (plane w given) r c)) ≤ to_join) → all_at_most to_join (map nat_abs (listing w h (λ r c. f (split 1 w h (plane w given) r c)))) ≡ true
   unfolding listing

@@ -13,7 +13,8 @@ use Rattle.border.specs.Border.{reflect}
 use Rattle.border.proofs.Reflection.{reflect_lt, reflect_inside}
 use Rattle.planes.specs.Planes.{plane_of, Sizes}
 use Rattle.planes.specs.Lists.{value}
-use Rattle.planes.proofs.Planes.{row_room, place_inside}
+use Rattle.planes.proofs.Planes.{row_room}
+use Rattle.std.proofs.lemmas.Nat.{mul-add-lt}
 use Rattle.filters.specs.Bank.{Taps, weighted, tap, along, along_columns, filtered, Bands, join, low_join, high_join}
 use Rattle.filters.proofs.Taps.{weighted-three}
 use Rattle.filters.proofs.Ranges.{gain}
@@ -27,7 +28,7 @@ use Rattle.bank.specs.Planes.{Plane, plane, bands_of}
 pub row_run : {m : ℕ} {l : List ℤ} {w h : ℕ} → Plane m l w h → (most : ℕ) → m ≤ most → (i at : ℕ) → i < h → at ≡ i * w → Run most l at w
 row_run {m} {l} {w} {h} p most le i at hi e = record {
   inside = omega (arith, row_room w h i hi, p.count, e);
-  small = λ k hk. le_trans (p.small (at + k) (omega (arith, place_inside hi hk, e))) le;
+  small = λ k hk. le_trans (p.small (at + k) (omega (arith, mul-add-lt _ _ _ _ hi hk, e))) le;
 }
 
 pub row_small : {w h : ℕ} → Sizes 1 w h → (i : ℕ) → i < h → i * w + w ≤ 4194304

@@ -9,7 +9,8 @@ use lib.ListN.{length}
 use Rattle.integers.proofs.Lists.{get_or-tabulate}
 use Rattle.planes.specs.Planes.{listing, plane_of}
 use Rattle.planes.specs.Lists.{value}
-use Rattle.planes.proofs.Planes.{row_inside, column_inside, place_inside, length-listing}
+use Rattle.planes.proofs.Planes.{row_inside, column_inside, length-listing}
+use Rattle.std.proofs.lemmas.Nat.{mul-add-lt}
 use Rattle.questions.specs.Refusals.{Answer, number_of}
 use Rattle.questions.specs.Calls.{Outcome}
 use Rattle.questions.proofs.Answering.{new_left}
@@ -22,7 +23,7 @@ use Rattle.bank.proofs.Calls.{Joinable, joinable}
 -- a list's plane is within what its values are
 plane_within : (most : ℕ) (l : List ℤ) (w h : ℕ) → Plane most l w h → Within most w h (plane w l)
 unfolding plane_of
-plane_within most l w h p r c hr hc = p.small (r * w + c) (place_inside hr hc)
+plane_within most l w h p r c hr hc = p.small (r * w + c) (mul-add-lt _ _ _ _ hr hc)
 
 -- the sums of bands that may be joined
 list_within : (w h : ℕ) (given : Bands (List ℤ)) (room : ℕ) → Joinable w h given room → (k : ℕ) → k < length (join_list w h given) → nat_abs (value (join_list w h given) k) ≤ sum_within

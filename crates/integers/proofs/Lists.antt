@@ -1,5 +1,6 @@
 -- The laws of tabulated and overwritten lists: lengths, what is read, one store more, one part after another; of the test whether two
 -- lists are the same; and of runs that are stored. Assumes nothing.
+use Rattle.std.proofs.lemmas.List.{map-append}
 use mathlib.Core.Path.{◌≡◌, refl, sym, ap, ◌∙◌, subst}
 use mathlib.Core.Bool.{true, ◌&&◌}
 use mathlib.Core.List.{List, [], ◌∷◌, ◌++◌, map, append_assoc, append-nil}
@@ -199,14 +200,11 @@ module _ {A : Type 0} where
 
 -- ---- each element through g
 module _ {A B : Type 0} (g : A → B) where
-  map-append : (l m : List A) → map g (l ++ m) ≡ map g l ++ map g m
-  map-append [] m = refl
-  map-append (x ∷ l) m = ap (λ (t : List B). g x ∷ t) (map-append l m)
 
   pub map-tabulate : (n : ℕ) (f : ℕ → A) → map g (tabulate n f) ≡ tabulate n (λ k. g (f k))
   unfolding tabulate
   map-tabulate zero f = refl
-  map-tabulate (suc n) f = map-append (tabulate n f) (f n ∷ []) ∙ ap (λ (t : List B). t ++ (g (f n) ∷ [])) (map-tabulate n f)
+  map-tabulate (suc n) f = map-append g (tabulate n f) (f n ∷ []) ∙ ap (λ (t : List B). t ++ (g (f n) ∷ [])) (map-tabulate n f)
 
 -- ---- the same numbers
 pub same_list_yes : (l m : List ℕ) → l ≡ m → same_list l m ≡ true

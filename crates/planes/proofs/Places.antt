@@ -15,7 +15,8 @@ use borrow.Author.Tests.{eqb-true, eqb-false, eq-eqb, ne_eqb}
 use Rattle.integers.proofs.Tests.{cond_cases, and_left, and_right}
 use Rattle.planes.specs.Places.{half, place}
 use Rattle.planes.specs.Lists.{put, InPlane}
-use Rattle.planes.proofs.Planes.{row_inside, column_inside, place_inside}
+use Rattle.planes.proofs.Planes.{row_inside, column_inside}
+use Rattle.std.proofs.lemmas.Nat.{mul-add-lt}
 
 -- ---- a list with elements put at places
 module _ {A : Type 0} where
@@ -137,7 +138,7 @@ module _ (w h a b : ℕ) (ha : a < 2) (hb : b < 2) where
 
   -- all of them inside
   small_in_list : (i j : ℕ) → i < rows → j < columns → a * w + b + i * (2 * w) + 2 * j < w * h
-  small_in_list i j hi hj = subst (λ (n : ℕ). n < w * h) (sym (small_place w a b i j)) (place_inside (second_inside h a i ha hi) (second_inside w b j hb hj))
+  small_in_list i j hi hj = subst (λ (n : ℕ). n < w * h) (sym (small_place w a b i j)) (mul-add-lt _ _ _ _ (second_inside h a i ha hi) (second_inside w b j hb hj))
 
   -- and so are as many places that stand no farther on
   pub nearer_in_list : (from down across i j : ℕ) → from ≤ a * w + b → down ≤ 2 * w → across ≤ 2 → i < rows → j < columns → from + i * down + j * across < w * h
@@ -155,7 +156,7 @@ module _ (w h a b : ℕ) (ha : a < 2) (hb : b < 2) where
   -- and a place with these parities is one of them
   found : (k : ℕ) → k < w * h → k / w % 2 ≡ a → k % w % 2 ≡ b → ((j : ℕ) → j < columns * rows → at_place j ≡ k → ⊥) → ⊥
   found k hk x y none =
-      none (k / w / 2 * columns + k % w / 2) (place_inside row column)
+      none (k / w / 2 * columns + k % w / 2) (mul-add-lt _ _ _ _ row column)
       (row-place (a * w + b) (2 * w) columns (k / w / 2) (k % w / 2) column ∙ small_place w a b (k / w / 2) (k % w / 2) ∙ (λ m. twice_row m * w + twice_column m) ∙ div-add-mod' k w)
     where
       row : k / w / 2 < rows
@@ -216,4 +217,4 @@ module _ (w h a b : ℕ) (ha : a < 2) (hb : b < 2) where
     put-after k past hk = put_at d l (columns * rows) at_place f k (get_or l k d) hk (λ j hj is. absurd (no j hj is)) (λ none. refl)
       where
         no : (j : ℕ) → j < columns * rows → at_place j ≡ k → ⊥
-        no j hj is = omega (arith, past, is, at_place_is j, place_inside (second_inside h a (j / columns) ha (row_inside columns rows j hj)) (second_inside w b (j % columns) hb (column_inside columns rows j hj)))
+        no j hj is = omega (arith, past, is, at_place_is j, mul-add-lt _ _ _ _ (second_inside h a (j / columns) ha (row_inside columns rows j hj)) (second_inside w b (j % columns) hb (column_inside columns rows j hj)))

@@ -1,4 +1,5 @@
 -- The laws of planes and of the lists that hold them. Assumes nothing.
+use Rattle.std.proofs.lemmas.Nat.{mul-add-lt}
 use mathlib.Core.Path.{◌≡◌, refl, sym, ◌∙◌, ap, subst}
 use mathlib.Core.List.{List}
 use Prim.Native.Nat.{ℕ, zero, suc, ◌+◌, ◌*◌, ◌/◌, ◌%◌, ◌≤◌, ◌<◌}
@@ -29,9 +30,6 @@ row_inside w h k b = (div-lt_iff_lt-mul (width_pos w h k b)).1 (omega (arith, mu
 pub column_inside : (w h k : ℕ) → k < w * h → k % w < w
 column_inside w h k b = mod-lt k (width_pos w h k b)
 
-pub place_inside : {w h r c : ℕ} → r < h → c < w → r * w + c < w * h
-place_inside {w} {h} {r} {c} hr hc = subst (λ (n : ℕ). r * w + c < n) (mul_comm h w) (digits_lt hr hc)
-
 -- row i and the rows before it
 pub row_room : (w h i : ℕ) → i < h → i * w + w ≤ w * h
 row_room w h i l = omega (arith, suc-mul i w, mul-le-mul_right w l, mul_comm w h)
@@ -45,7 +43,7 @@ module _ {A : Type 0} where
   pub plane_of-listing : (d : A) (w h : ℕ) (p : ℕ → ℕ → A) → Agree w h (plane_of d w (listing w h p)) p
   unfolding plane_of listing
   plane_of-listing d w h p r c hr hc =
-      get_or-tabulate (w * h) (λ k. p (k / w) (k % w)) (r * w + c) d (place_inside hr hc) ∙ (λ i. p (digits_div r hc i) (digits_mod r hc i))
+      get_or-tabulate (w * h) (λ k. p (k / w) (k % w)) (r * w + c) d (mul-add-lt _ _ _ _ hr hc) ∙ (λ i. p (digits_div r hc i) (digits_mod r hc i))
 
   pub listing_agree : (w h : ℕ) {p q : ℕ → ℕ → A} → Agree w h p q → listing w h p ≡ listing w h q
   unfolding listing

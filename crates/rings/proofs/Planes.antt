@@ -11,7 +11,8 @@ use lib.ListN.{length, get_or}
 use Rattle.integers.specs.Lists.{overwrite}
 use Rattle.integers.proofs.Lists.{length-overwrite, overwrite-after, overwrite_none}
 use Rattle.planes.specs.Lists.{InRow, value}
-use Rattle.planes.proofs.Planes.{row_room, place_inside, overwrite-row}
+use Rattle.planes.proofs.Planes.{row_room, overwrite-row}
+use Rattle.std.proofs.lemmas.Nat.{mul-add-lt}
 use Rattle.lines.specs.Lines.{Run}
 use Rattle.projection.specs.Fast.{difference}
 use Rattle.details.specs.Details.{difference_line, guide_value}
@@ -75,7 +76,7 @@ module _ (g : Given) (own : List ℤ) (new : ℕ → ℕ → ℤ) where
       unfolding own_plane
       own_row r i j = record {
         inside = omega (arith, long, area r j);
-        small = λ c k. subst (λ (z : ℤ). nat_abs z ≤ reach) (sym (untouched r c i)) (p.small (r * w + c) (place_inside j k));
+        small = λ c k. subst (λ (z : ℤ). nat_abs z ≤ reach) (sym (untouched r c i)) (p.small (r * w + c) (mul-add-lt _ _ _ _ j k));
       }
 
       -- so its differences are the plane's

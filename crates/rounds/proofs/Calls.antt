@@ -10,7 +10,8 @@ use borrow.Author.Tests.{eqb-true, leb-true}
 use Rattle.integers.proofs.Tests.{true_is}
 use Rattle.planes.specs.Layout.{two_levels}
 use Rattle.planes.specs.Planes.{Frame, Planes, planes, listing, listings, plane_of}
-use Rattle.planes.proofs.Planes.{place_inside, listing-plane_of, listing_agree}
+use Rattle.planes.proofs.Planes.{listing-plane_of, listing_agree}
+use Rattle.std.proofs.lemmas.Nat.{mul-add-lt}
 use Rattle.questions.specs.Settings.{ceiling_of, rounds_of}
 use Rattle.questions.specs.Questions.{ask, all_at_most, shape_questions, settings_questions, frame_questions}
 use Rattle.questions.specs.Lent.{Lent, lent, rooms_of, wide_enough, buffer_questions}
@@ -72,7 +73,7 @@ module _ (f : Frame) (s : Settings) (before : Lent) (e : 0 ≡ ask (rounds_quest
       (same (blue_of f.width f.height f.layout s) before.three.blue blue_long blues_small i)
     where
       small_at : (plane : List ℕ) → length plane ≡ count → all_at_most (ceiling_of s) plane ≡ true → (r c : ℕ) → r < f.height → c < f.width → plane_of 0 f.width plane r c ≤ ceiling_of s
-      small_at plane e small r c hr hc = unfold plane_of in all_at_most_at (ceiling_of s) plane (true_is small) (r * f.width + c) (omega (arith, e, place_inside hr hc))
+      small_at plane e small r c hr hc = unfold plane_of in all_at_most_at (ceiling_of s) plane (true_is small) (r * f.width + c) (omega (arith, e, mul-add-lt _ _ _ _ hr hc))
 
       same : (k : Colour) (plane : List ℕ) → length plane ≡ count → all_at_most (ceiling_of s) plane ≡ true
           → listing f.width f.height (rewritten (rounds_of s) (round_of (two_levels f.layout) k (ceiling_of s) f.samples before.three.green) (plane_of 0 f.width plane)) ≡ plane

@@ -13,7 +13,8 @@ use Rattle.integers.proofs.Tests.{same_test, is_true, true_is}
 use Rattle.planes.specs.Layout.{red_row, red_column, two_levels, with_parities}
 use Rattle.planes.specs.Planes.{listing, plane_of, Frame, frame}
 use Rattle.planes.proofs.Layouts.{row_lt, column_lt, same_level}
-use Rattle.planes.proofs.Planes.{length-listing, listing_agree, listing-plane_of, place_inside, plane_of-listing, row_inside, column_inside}
+use Rattle.planes.proofs.Planes.{length-listing, listing_agree, listing-plane_of, plane_of-listing, row_inside, column_inside}
+use Rattle.std.proofs.lemmas.Nat.{mul-add-lt}
 use Rattle.questions.specs.Questions.{all_at_most}
 use Rattle.questions.proofs.Asking.{all_at_most_at, all_at_most_by}
 use Rattle.turns.specs.Pictures.{Picture, exchanged, left_right, top_bottom, steps_of, if_so, turned_by, turned, followed_by, number_of_steps, then_another, ◌≈◌}
@@ -160,7 +161,7 @@ from_turned t f e v a = subst (Among f.samples) (found ∙ a.holds) (every_turne
 
     first : Every (Among f.samples) (picture_of f)
     first = unfold picture_of plane_of in
-        (λ r c hr hc. record { place = r * f.width + c; inside = subst (λ (n : ℕ). r * f.width + c < n) (sym e.count) (place_inside hr hc); holds = refl })
+        (λ r c hr hc. record { place = r * f.width + c; inside = subst (λ (n : ℕ). r * f.width + c < n) (sym e.count) (mul-add-lt _ _ _ _ hr hc); holds = refl })
 
 -- and the other way round: the two have the same values
 pub values_turned : (t : ℕ) (f : Frame) → Whole f → (v : ℕ) → Among f.samples v ↔ Among (turn_frame t f).samples v
@@ -182,7 +183,7 @@ all_at_most-turned top t f e =
 -- ---- a plane's samples at most top, and its list's
 pub plane_bound : (top w h : ℕ) (s : List ℕ) → length s ≡ w * h → all_at_most top s ≡ true → (r c : ℕ) → r < h → c < w → plane_of 0 w s r c ≤ top
 unfolding plane_of
-plane_bound top w h s e small r c hr hc = all_at_most_at top s (true_is small) (r * w + c) (omega (arith, place_inside hr hc, e))
+plane_bound top w h s e small r c hr hc = all_at_most_at top s (true_is small) (r * w + c) (omega (arith, mul-add-lt _ _ _ _ hr hc, e))
 
 pub listing_bound : (top w h : ℕ) (p : ℕ → ℕ → ℕ) → ((r c : ℕ) → r < h → c < w → p r c ≤ top) → all_at_most top (listing w h p) ≡ true
 unfolding listing

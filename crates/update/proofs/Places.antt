@@ -19,7 +19,8 @@ use Rattle.integers.proofs.Lists.{tabulate_cong, tabulate-get_or, length-overwri
 use Rattle.planes.specs.Planes.{listing, plane_of, Agree}
 use Rattle.planes.specs.Lists.{value, sample, put}
 use Rattle.planes.specs.Places.{half, place}
-use Rattle.planes.proofs.Planes.{sized, row_inside, column_inside, place_inside, plane_of-listing, listing_agree}
+use Rattle.planes.proofs.Planes.{sized, row_inside, column_inside, plane_of-listing, listing_agree}
+use Rattle.std.proofs.lemmas.Nat.{mul-add-lt}
 use Rattle.planes.proofs.Places.{length-put, second_inside, small_inside, row-place, small_place, nearer_in_list, put-colour}
 use Rattle.filters.specs.Bank.{Distance}
 use Rattle.projection.specs.Projection.{projected}
@@ -77,7 +78,7 @@ module _ (w h a b : ℕ) (ha : a < 2) (hb : b < 2) where
       unfolding sample
       gathered_small i j hi hj =
           ap (λ (l : List ℤ). value l (0 + (i * columns + j))) e
-          ∙ overwrite_in work 0 (columns * rows) (λ k. sample green (at_place k)) (i * columns + j) (pos 0) (omega arith) (place_inside hi hj)
+          ∙ overwrite_in work 0 (columns * rows) (λ k. sample green (at_place k)) (i * columns + j) (pos 0) (omega arith) (mul-add-lt _ _ _ _ hi hj)
           ∙ ap (λ (n : ℕ). pos (get_or green n 0)) (row-place (a * w + b) (2 * w) columns i j hj ∙ small_place w a b i j)
           ∙ (unfold small_plane plane_of in refl)
 
@@ -91,7 +92,7 @@ module _ (w h a b : ℕ) (ha : a < 2) (hb : b < 2) where
         inside = omega (arith, room, ap length e, length-overwrite work 0 (columns * rows) (λ k. sample green (at_place k)) (omega arith));
         small = λ k hk. omega (arith, bound k hk);
         guide_inside = λ i j hi hj. omega (arith, nearer_in_list w h a b ha hb from down across i j p q r hi hj, u.samples);
-        near = λ i j hi hj. omega (arith, abs_sub (value gathered (0 + (i * columns + j))) (pos (get_or mosaic (from + i * down + j * across) 0)), bound (i * columns + j) (place_inside hi hj), sm (from + i * down + j * across));
+        near = λ i j hi hj. omega (arith, abs_sub (value gathered (0 + (i * columns + j))) (pos (get_or mosaic (from + i * down + j * across) 0)), bound (i * columns + j) (mul-add-lt _ _ _ _ hi hj), sm (from + i * down + j * across));
       }
         where
           bound : (k : ℕ) → k < columns * rows → nat_abs (value gathered (0 + k)) ≤ 65535
@@ -159,7 +160,7 @@ module _ (w h a b : ℕ) (ha : a < 2) (hb : b < 2) where
 
           there : (i j : ℕ) → i < rows → j < columns → nat_abs (value laid (i * columns + j)) ≡ new (2 * i + a) (2 * j + b)
           there i j hi hj =
-              ap nat_abs (laid_at (i * columns + j) (place_inside hi hj)) ∙ (λ m. small_mixed top w h a b mosaic green (digits_div i hj m) (digits_mod i hj m))
+              ap nat_abs (laid_at (i * columns + j) (mul-add-lt _ _ _ _ hi hj)) ∙ (λ m. small_mixed top w h a b mosaic green (digits_div i hj m) (digits_mod i hj m))
               ∙ (unfold small_mixed in (λ m. mixed top columns rows (small_plane a b (λ i j. pos (plane_of 0 w green i j))) (small_plane a b (λ i j. pos (plane_of 0 w mosaic i j))) (row-half m) (column_half m)))
             where
               row-half : i ≡ (2 * i + a) / 2

@@ -19,7 +19,8 @@ use Rattle.integers.proofs.Lists.{length-tabulate, get_or-tabulate, length-overw
 use Rattle.planes.specs.Planes.{plane_of, Agree}
 use Rattle.planes.specs.Lists.{value, sample, put, InPlane}
 use Rattle.planes.specs.Places.{half, place}
-use Rattle.planes.proofs.Planes.{row_inside, column_inside, place_inside}
+use Rattle.planes.proofs.Planes.{row_inside, column_inside}
+use Rattle.std.proofs.lemmas.Nat.{mul-add-lt}
 use Rattle.planes.proofs.Places.{length-put, row-place, small_place, small_rows, put-colour, put-after}
 use Rattle.work_buffer.specs.Buffer.{with_plane, zeroed, Narrow}
 use Rattle.work_buffer.specs.Places.{places_of}
@@ -43,7 +44,7 @@ module _ (w h : ℕ) (work : List ℤ) (room : w * h ≤ length work) where
   -- it holds the plane
   pub plane_with : (p : ℕ → ℕ → ℤ) → Agree w h (plane_of (pos 0) w (with_plane w h p work)) p
   unfolding plane_of
-  plane_with p r c hr hc = with_plane_at p (r * w + c) (place_inside hr hc) ∙ (λ i. p (digits_div r hc i) (digits_mod r hc i))
+  plane_with p r c hr hc = with_plane_at p (r * w + c) (mul-add-lt _ _ _ _ hr hc) ∙ (λ i. p (digits_div r hc i) (digits_mod r hc i))
 
   -- planes that agree inside
   pub with_plane_agree : {p q : ℕ → ℕ → ℤ} → Agree w h p q → with_plane w h p work ≡ with_plane w h q work

@@ -15,7 +15,8 @@ use Rattle.integers.proofs.Lists.{tabulate_cong}
 use Rattle.planes.specs.Planes.{listing, plane_of, Agree}
 use Rattle.planes.specs.Lists.{value, sample}
 use Rattle.planes.specs.Places.{put_at_places}
-use Rattle.planes.proofs.Planes.{sizes_from_1, place_inside}
+use Rattle.planes.proofs.Planes.{sizes_from_1}
+use Rattle.std.proofs.lemmas.Nat.{mul-add-lt}
 use Rattle.filters.specs.Bank.{Distance}
 use Rattle.projection.specs.Projection.{limits_of}
 use Rattle.rings.specs.Planes.{own_plane, guide_plane, Projectable}
@@ -50,8 +51,8 @@ projectable w h mosaic green work u n sg limit distance = record {
   limit = distance;
   inside = omega (arith, n.inside);
   small = λ k hk. kept_far 65535 (at k hk);
-  guide_inside = λ r c hr hc. omega (arith, u.greens, place_inside hr hc);
-  near = λ r c hr hc. kept_near 65535 (at (r * w + c) (place_inside hr hc)) (get_or green (0 + r * w + c * 1) 0) (sg (0 + r * w + c * 1));
+  guide_inside = λ r c hr hc. omega (arith, u.greens, mul-add-lt _ _ _ _ hr hc);
+  near = λ r c hr hc. kept_near 65535 (at (r * w + c) (mul-add-lt _ _ _ _ hr hc)) (get_or green (0 + r * w + c * 1) 0) (sg (0 + r * w + c * 1));
 }
   where
     at : (k : ℕ) → k < w * h → KeptTo 65535 (value work (0 + k))
@@ -134,7 +135,7 @@ module _ (two : Bool) (k : Colour) (top : ℕ) (mosaic green : List ℕ) (work :
       observed r c = unfold plane_of in sm (r * w + c)
 
       first : (r c : ℕ) → r < h → c < w → KeptTo 65535 (plane_of (pos 0) w work r c)
-      first r c hr hc = unfold plane_of in u.each (r * w + c) (place_inside hr hc)
+      first r c hr hc = unfold plane_of in u.each (r * w + c) (mul-add-lt _ _ _ _ hr hc)
 
 -- ---- a colour's plane: loaded, through n rounds, and unloaded
 module _ (two : Bool) (k : Colour) (top : ℕ) (mosaic green plane : List ℕ) (work : List ℤ) (room : k.width * k.height ≤ length work) (long : length plane ≡ k.width * k.height)
