@@ -7,10 +7,12 @@ use native.Mathlib.Numerals.{add-one}
 use native.Mathlib.Omega.{arith}
 use lib.Dec.{ltb}
 use lib.ListN.{length, get_or, drop, set, length-append, drop_of_length-le}
-use lib.Seq.{sets, drop-cons}
+use lib.Seq.{drop-cons}
+use borrow.Rule.Slice.PartMut.{put_mid}
+use Rattle.std.proofs.lemmas.List.{append-nil, append_assoc, length-set, get_or-set_same, drop-set-lt}
 use Rattle.planes.specs.Planes.{Planes}
 use Rattle.printing.specs.Text.{digits, digit_count, decimal, separator, rows_after, frame_text, refusal, Put}
-use Rattle.printing.proofs.Putting.{sets_last, put_then, put_nothing}
+use Rattle.printing.proofs.Putting.{put_then, put_nothing, put_part}
 
 -- ---- lengths
 length_digits : (k n : ℕ) → length (digits k n) ≡ k
@@ -49,28 +51,38 @@ pub length-refusal : (n : ℕ) → length (refusal n) ≤ 14
 unfolding refusal
 length-refusal n = simp length-append (omega (arith, length-decimal n))
 
--- ---- the loop that puts digits, the last one first
-pub digits_step : (out : List ℕ) (at i rest : ℕ) → 0 < i
-    → sets (set out (at + (i - 1)) (48 + rest % 10)) at (digits (i - 1) (rest / 10)) ≡ sets out at (digits i rest)
+-- ---- the loop that puts digits, the last one first: those that are left, before those that are put
+pub digits_start : (out : List ℕ) (n : ℕ) → digits (length out) n ++ drop (length out) out ≡ digits (length out) n
+digits_start out n = ap (λ (l : List ℕ). digits (length out) n ++ l) (drop_of_length-le out {i = length out} (omega arith)) ∙ append-nil (digits (length out) n)
+
+pub digits_step : (out : List ℕ) (i rest : ℕ) → 0 < i → i ≤ length out
+    → digits (i - 1) (rest / 10) ++ drop (i - 1) (set out (i - 1) (48 + rest % 10)) ≡ digits i rest ++ drop i out
 unfolding digits
-digits_step out at zero rest h = absurd (omega arith)
-digits_step out at (suc i) rest h =
-    ap (λ (k : ℕ). sets (set out (at + k) (48 + rest % 10)) at (digits k (rest / 10))) same
-    ∙ sets_last out at (at + i) (digits i (rest / 10)) (48 + rest % 10) (ap (λ (k : ℕ). at + k) (sym (length_digits i (rest / 10))))
+digits_step out zero rest h room = absurd (omega arith)
+digits_step out (suc i) rest h room =
+    ap (λ (k : ℕ). digits k (rest / 10) ++ drop k (set out k x)) same
+    ∙ ap (λ (l : List ℕ). digits i (rest / 10) ++ l) (drop-cons (set out i x) i 0 (omega (arith, room, length-set out i x)) ∙ (λ j. get_or-set_same out i x 0 room j ∷ drop-set-lt (suc i) out i x (omega arith) j))
+    ∙ sym (append_assoc (digits i (rest / 10)) (x ∷ []) (drop (suc i) out))
   where
+    x : ℕ
+    x = 48 + rest % 10
+
     same : suc i - 1 ≡ i
     same = omega arith
 
-pub digits_none : (out : List ℕ) (at i rest : ℕ) → i ≡ 0 → out ≡ sets out at (digits i rest)
+pub digits_end : (out : List ℕ) (i rest : ℕ) → i ≤ 0 → out ≡ digits i rest ++ drop i out
 unfolding digits
-digits_none out at i rest e = ap (λ (k : ℕ). sets out at (digits k rest)) (sym e)
+digits_end out zero rest h = refl
+digits_end out (suc i) rest h = absurd (omega arith)
 
-pub decimal-put : (at n k : ℕ) {before after : List ℕ} → k ≡ digit_count n → after ≡ sets before at (digits k n) → Put at (decimal n) before (at + k) after
+-- a number's k digits, put into a part of the buffer
+pub decimal-put : (at n k m j : ℕ) (before : List ℕ) {y : List ℕ} → k ≡ digit_count n → y ≡ digits j n → j ≡ k → m ≡ k → at + k ≤ length before → Put at (decimal n) before (at + k) (put_mid at m before y)
 unfolding decimal
-decimal-put at n k {before} e f = record {
-  buffer = f ∙ ap (λ (m : ℕ). sets before at (digits m n)) e;
-  place = ap (λ (m : ℕ). at + m) (e ∙ sym (length_digits (digit_count n) n));
-}
+decimal-put at n k m j before {y} e f d i h =
+    let all = length_digits k n in
+    subst (λ (c : ℕ). Put at (digits c n) before (at + k) (put_mid at m before y)) e
+    (subst (λ (c : ℕ). Put at (digits k n) before (at + c) (put_mid at m before y)) all
+    (put_part at m before (digits k n) (i ∙ sym all) (omega (arith, all, h)) (f ∙ ap (λ (c : ℕ). digits c n) d)))
 
 -- ---- the loop that puts rows: one number more, and no number left
 pub rows_step : (w : ℕ) (s : List ℕ) (k n : ℕ) {at i j end c : ℕ} {out x y after : List ℕ} → k < length s → n ≡ get_or s k 0

@@ -24,14 +24,13 @@ fn digit_count(n: usize) -> usize
     }
 }
 
-// The last k digits of n, into `out` from `at` on. The last one comes first; a digit fits a byte, as is proved.
-fn put_digits(out: &mut [u8], at: usize, k: usize, n: usize)
-    requires { at + k ≤ length out.old }
-    ensures { out.new ≡ sets out.old at (digits k n) }
+// The last digits of n, as many as `out` has. The last one comes first; a digit fits a byte, as is proved.
+fn put_digits(out: &mut [u8], n: usize)
+    ensures { out.new ≡ digits (length out.old) n }
 {
     let mut rest = n;
-    for left in (0..k).rev() {
-        out[at + left] = b'0' + (rest % 10) as u8;
+    for k in (0..out.len()).rev() {
+        out[k] = b'0' + (rest % 10) as u8;
         rest /= 10;
     }
 }
@@ -81,9 +80,9 @@ impl Printer<'_> {
         ensures short { self.new.end ≤ self.old.end + 5 }
         ensures same_buffer { (self.new.out.ghost_name ≡ self.old.out.ghost_name) × (length self.new.out.now ≡ length self.old.out.now) }
     {
-        let count = digit_count(n);
-        put_digits(self.out, self.end, count, n);
-        self.end += count;
+        let at = self.end;
+        self.end += digit_count(n);
+        put_digits(&mut self.out[at..self.end], n);
     }
 
     // The rows of a plane. A sample takes five digits and what follows it, at most.
