@@ -200,7 +200,6 @@ module _ {A : Type 0} where
 
 -- ---- each element through g
 module _ {A B : Type 0} (g : A → B) where
-
   pub map-tabulate : (n : ℕ) (f : ℕ → A) → map g (tabulate n f) ≡ tabulate n (λ k. g (f k))
   unfolding tabulate
   map-tabulate zero f = refl
