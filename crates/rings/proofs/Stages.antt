@@ -42,6 +42,10 @@ module _ (lag : ℕ) (g : Given) (t : ℕ) where
       none : reached lag g.height (t + 1) - reached lag g.height t ≡ 0
       none = let j : reached lag g.height (t + 1) ≤ reached lag g.height t = omega (arith, i) in omega arith
 
+  -- a stage works where fewer rows are made before the step than after it
+  pub working : {r next : ℕ} → r ≡ reached lag g.height t → next ≡ reached lag g.height (t + 1) → r < next → Working lag g.height t
+  working is_r is_next i = omega arith
+
   -- as code goes: the row that is made, at a place that is a function of its number
   module _ {r : ℕ} (made : (r ≡ reached lag g.height t) × Working lag g.height t) where
     pub row_worked : (l : List ℤ) (o : ℕ → ℕ) (rows : ℕ → ℕ → ℤ) {l' : List ℤ} → l' ≡ overwrite l (o r) g.width (rows r) → l' ≡ row_laid lag g t l (o (reached lag g.height t)) (rows (reached lag g.height t))
