@@ -59,6 +59,17 @@ def twins(source):
     return [" ~ ".join(g) for g in groups.values() if len(g) > 1]
 
 
+def struct_twins(source):
+    """Structs whose fields have the same names."""
+    groups = {}
+    for name, text in source.items():
+        for struct, fields in re.findall(r"(?m)^(?:pub )?struct (\w+)[^{;]*\{\n(.*?)^\}", text, re.S):
+            names = tuple(re.findall(r"(?m)^    (?:pub )?(\w+):", fields))
+            if len(names) > 1:
+                groups.setdefault(names, []).append(f"{name.split('/')[1]}::{struct}")
+    return [" ~ ".join(g) for g in groups.values() if len(g) > 1]
+
+
 def repeated_facts(source):
     """Facts of `requires` clauses that stand in three or more contracts."""
     facts = {}
@@ -77,15 +88,19 @@ def points(commit):
         "1 enums of the shape of Result": lines(source, r"\bRefused\(u32"),
         "1 refusals as numbers": lines(source, r"return \d+;|\b(number|refusal) != 0|return \w+::Refused\("),
         "1 flags and kinds as numbers": lines(source, r"\b(mirror|found|left_right|top_bottom): u\d+|\b(lit|swapped|is_red): bool|\blayout: u8|\bturn: u8"),
+        "1 a row, and whether there is one, as two numbers": lines(source, r"if r < (rings::)?done\("),
+        "1 refusals met by a dummy": lines(source, r"(turned|places_of).*\bunwrap_or\(0\)|= places_of\("),
         "2 functions of one shape": twins(source),
+        "2 structs of the same fields": struct_twins(source),
         "3 loops that count by hand": lines(source, r"^\s*while "),
         "3 loops over the places of one slice": lines(source, r"for \w+ in 0\.\.\w+\.len\(\)"),
         "4 conversions by `as`": lines(source, r"\bas (u8|u16|u32|u64|i32|i64|usize|f64)\b"),
         "4 order, equality and signs by hand": lines(source, r"fn (larger|clipped|size|above_zero|below_zero|same_fields|same_samples|counted|zero|zero_wide|widened|wide|signed|byte|digit_count|if_exchanged|picked|chosen)\("),
+        "4 the ceiling as a number": [x for x in lines(source, r"\b4095\b") if "_examples/" not in x],
         "5 functions of eight parameters and more": [f"{n}: {f}, {len(g)}" for n, f, g, b in functions(source) if len(g) >= 8],
         "5 facts in three contracts and more": repeated_facts(source),
         "6 buffers with a place beside them": [f"{n}: {f}" for n, f, g, b in functions(source) if any(re.match(r"\s*(at|from|to|start): usize", p) for p in g) and any("[" in p for p in g)],
-        "7 switches on a step": lines(source, r"if (is_red|questions::two_levels\()|fn \w+\(\s*is_red"),
+        "7 switches on a step": lines(source, r"if (is_red|questions::two_levels\(|\w+\.two_levels\(\))|fn \w+\(\s*is_red"),
         "8 lines of answers and invariants": [x for t in answers.values() for x in t.splitlines()],
         "8 answers on lengths alone": lines(answers, r"^pub shape_of-"),
         "8 measures of loops": lines(answers, r"^abbrev pub decreases-"),

@@ -52,7 +52,7 @@ impl Example {
     }
 }
 
-// A frame, with buffers that suffice.
+// A frame, of any layout, as `Shape` has it, with buffers that suffice.
 pub(crate) fn of(width: usize, height: usize, layout: u8, rounds: u8, threshold: u16) -> Example
     requires { width * height ≤ 12 }
 {

@@ -27,7 +27,7 @@ pub(crate) fn last_bytes(rt: &impl Print) -> io::Result<()> {
     Ok(())
 }
 
-// Each byte of the packet, replaced by each of ten.
+// Each byte of the packet, replaced by each of ten. By its place: the byte itself is not looked at.
 pub(crate) fn replaced_bytes(rt: &impl Print) -> io::Result<()> {
     let values = [0u8, 1, 2, 3, 4, 7, 8, 16, 65, 255];
     for place in 0..TWO_BY_TWO.len() {

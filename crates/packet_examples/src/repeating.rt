@@ -12,7 +12,7 @@ fn both_ways(rt: &impl Print, a: &[u8], b: &[u8]) -> io::Result<()> {
     println!(rt)
 }
 
-// Each byte of the packet, replaced by 1.
+// Each byte of the packet, replaced by 1. By its place: the byte itself is not looked at.
 pub(crate) fn replaced_bytes(rt: &impl Print) -> io::Result<()> {
     for place in 0..TWO_BY_TWO.len() {
         both_ways(rt, &TWO_BY_TWO, &stores::with(place, 1))?;

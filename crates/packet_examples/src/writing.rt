@@ -21,6 +21,7 @@ fn example(rt: &impl Print, f: Fields, last: u16, room: usize) -> io::Result<()>
     show(rt, f, &samples, &mut out[..room])
 }
 
+// Of any layout, as `Shape` has it.
 fn fields(width: usize, height: usize, layout: u8, rounds: u8, threshold: u16) -> Fields {
     Fields {
         shape: Shape {

@@ -29,6 +29,7 @@ fn operations(rt: &impl Print, turn: Turn, shape: Shape) -> io::Result<()> {
     print::number(rt, turn.turned_layout(shape))
 }
 
+// Of any layout, as `Shape` has it.
 fn shape(width: usize, height: usize, layout: u8) -> Shape {
     Shape {
         width,
