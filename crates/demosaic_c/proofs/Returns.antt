@@ -11,7 +11,7 @@ use Rattle.questions.specs.declared.Shape.{Shape}
 use Rattle.questions.proofs.Asking.{all_yes}
 use Rattle.questions.proofs.Answering.{refusal_positive, left_no, left_yes, new_left, old_left}
 use Rattle.spot.specs.Spot.{is_lit, kept, lit_spot, next_kept, reading}
-use Rattle.spot.specs.Calls.{SpotGiven, questions_of, sums_of, SpotResult}
+use Rattle.spot.specs.Calls.{SpotGiven, sums_of, SpotResult}
 use Rattle.spot.specs.declared.Kept.{Kept}
 use Rattle.spot.specs.declared.Reading.{Reading}
 use Rattle.spot.specs.declared.Reading.TheVariants as spot_reading

@@ -1,7 +1,7 @@
 -- What is printed is the program's text: of an accepted input the mosaic is read, the frame is finished, and its planes make the text.
 -- Assumes nothing.
 use Prim.Native.Nat.{ℕ, ◌*◌, ◌≤◌}
-use mathlib.Core.Path.{◌≡◌, refl, sym, ap, ◌∙◌, subst}
+use mathlib.Core.Path.{◌≡◌, sym, ap, ◌∙◌, subst}
 use mathlib.Core.List.{List}
 use native.Mathlib.Omega.{arith}
 use lib.ListN.{length}
@@ -9,7 +9,7 @@ use lib.Seq.{length-sets}
 use borrow.Author.Tests.{eq-eqb, le-leb}
 use Rattle.planes.specs.Layout.{two_levels}
 use Rattle.questions.specs.Settings.{ceiling_of}
-use Rattle.questions.specs.Questions.{Question, ask}
+use Rattle.questions.specs.Questions.{ask}
 use Rattle.questions.specs.Lent.{Lent, rooms_of, buffer_questions}
 use Rattle.std.specs.Prelude.{IsOk}
 use Rattle.std.proofs.Common.{Result, Ok, Err}

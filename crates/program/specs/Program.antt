@@ -37,7 +37,7 @@ program_text input =
     if_accepted (program_questions input) (finished_text (fields_of input) (samples_of input)) (refusal (ask (program_questions input)))
 
 -- ---- what is promised and asked inside
--- reading the input: its fields, or the number of its refusal
+-- reading the input: its fields, or why it is refused
 abbrev pub InputResult : List ℕ → Result Fields Refusal → Type 0
 InputResult input r = Answered (program_questions input) (fields_of input) r
 

@@ -1,4 +1,4 @@
--- Lists of calls that read a spot, each given what the one before it handed back. Assumes nothing.
+-- Lists of calls that read a spot, each given what the one before it left. Assumes nothing.
 use Rattle.std.specs.Prelude.{◌≡◌, Bool, true, false, ◌||◌, Result, List, [], ◌∷◌}
 use Rattle.questions.specs.declared.Refusal.{Refusal}
 use Rattle.questions.specs.Calls.{if_accepted}

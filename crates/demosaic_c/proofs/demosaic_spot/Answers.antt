@@ -1,8 +1,5 @@
 -- `demosaic_c::demosaic_spot` meets its contract: that of the call in crate `spot`, the answer taken apart.
-use Rattle.std.proofs.Common.{◌≡◌, sym, ap, ◌*◌}
-use Rattle.planes.specs.Planes.{planes}
-use Rattle.spot.specs.declared.Reading.{Reading}
-use Rattle.questions.specs.Calls.{Numbered}
+use Rattle.std.proofs.Common.{sym, ap}
 use Rattle.demosaic_c.specs.Pointers.{SpotNumbers, spot_numbers}
 use Rattle.demosaic_c.proofs.Returns.{spot_no, spot_yes, spot_put, put}
 use Rattle.demosaic_c.proofs.demosaic_spot.Goals as goal
