@@ -1,11 +1,11 @@
 -- The laws of planes and of the lists that hold them. Assumes nothing.
 use Rattle.std.proofs.lemmas.Nat.{mul-add-lt}
-use mathlib.Core.Path.{◌≡◌, refl, sym, ◌∙◌, ap, subst}
+use mathlib.Core.Path.{◌≡◌, refl, sym, ◌∙◌, ap}
 use mathlib.Core.List.{List}
 use Prim.Native.Nat.{ℕ, zero, suc, ◌+◌, ◌*◌, ◌/◌, ◌%◌, ◌≤◌, ◌<◌}
 use native.Mathlib.Nat.{mod-lt, div-lt_iff_lt-mul, mul_comm, suc-mul, zero-mul, mul-le-mul, mul-le-mul_right, div-add-mod'}
 use native.Mathlib.Omega.{arith}
-use lib.Arith.{digits_div, digits_mod, digits_lt}
+use lib.Arith.{digits_div, digits_mod}
 use lib.ListN.{length, get_or}
 use Rattle.integers.specs.Lists.{overwrite}
 use Rattle.integers.proofs.Lists.{length-tabulate, get_or-tabulate, tabulate_cong, tabulate-get_or, overwrite_none, overwrite-append, overwrite_all}
