@@ -36,11 +36,15 @@ module _ {A B : Type 0} {qs : List Question} {promised : A} where
 pub put : {A B : Type 0} {c : Call A B} {n : ℕ} {x y : B} → x ≡ y → Numbered c n y → Numbered c n x
 put p e = record { number = e.number; leaves = p ∙ e.leaves }
 
--- Both in one, over every answer: what is put into numbers is a function of it, which of the one promised gives the new, and of a refused one the old.
-pub told : {A B : Type 0} {qs : List Question} {promised : A} (value : Result A Refusal → B) (new old : B) → value (Ok promised) ≡ new → ((why : Refusal) → value (Err why) ≡ old)
-    → (r : Result A Refusal) → Answered qs promised r → Numbered (plain_call qs new old) (number_of r) (value r)
-told value new old y n (Ok a) e = told_yes e (λ a. value (Ok a)) new old y
-told value new old y n (Err why) e = put (n why) (told_no e new old refl)
+-- Both in one, over every answer: what is put into numbers is told by the answer, `value` of the one promised is the new, of a refused one the old.
+module _ {A B : Type 0} {qs : List Question} {promised : A} (r : Result A Refusal) (e : Answered qs promised r) where
+  pub told : (value : Result A Refusal → B) (new old : B) → (ask qs ≡ 0 → value (Ok promised) ≡ new) → ((number_of r ≡ 0 → ⊥) → value r ≡ old) → (a : Result A Refusal) → r ≡ a
+      → Numbered (plain_call qs new old) (number_of a) (value a)
+  told value new old y n a p = subst (λ (x : Result A Refusal). Numbered (plain_call qs new old) (number_of x) (value x)) p (go r e n)
+    where
+      go : (x : Result A Refusal) → Answered qs promised x → ((number_of x ≡ 0 → ⊥) → value x ≡ old) → Numbered (plain_call qs new old) (number_of x) (value x)
+      go (Ok b) f m = told_yes f (λ (c : A). value (Ok c)) new old (y (sym f.number))
+      go (Err why) f m = put (m (refusal_positive why)) (told_no f new old refl)
 
 -- and a buffer beside them
 module _ {A B D : Type 0} {c : Call A B} {after : B} where
