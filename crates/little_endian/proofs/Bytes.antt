@@ -106,18 +106,27 @@ pub sets_whole : (l p : List ℕ) → length p ≡ length l → sets l 0 p ≡ p
 sets_whole l p e =
     sets-eq p l 0 (omega (arith, e)) ∙ ap (λ (m : List ℕ). p ++ m) (drop_of_length-le l {i = 0 + length p} (omega (arith, e))) ∙ append-nil p
 
--- ---- the loop that stores a number's bytes: the n - k that are left, of what is left of the number
-pub bytes_none : (out : List ℕ) (n x : ℕ) → sets out 0 (bytes_of (n - 0) x) ≡ sets out 0 (bytes_of n x)
-bytes_none out n x = λ j. sets out 0 (bytes_of (sub-zero n j) x)
+-- ---- the loop that stores a number's bytes: the n - k that are left, of what is left of the number, from place i on
+pub none_stored : (out : List ℕ) (i n x : ℕ) → sets out i (bytes_of (n - 0) x) ≡ sets out i (bytes_of n x)
+none_stored out i n x = λ j. sets out i (bytes_of (sub-zero n j) x)
 
-pub bytes_step : (out : List ℕ) (n k rest : ℕ) → k < n → sets (set out k (rest % 256)) (k + 1) (bytes_of (n - (k + 1)) (rest / 256)) ≡ sets out k (bytes_of (n - k) rest)
+pub byte_stored : (out : List ℕ) (i n k rest : ℕ) → k < n → sets (set out i (rest % 256)) (i + 1) (bytes_of (n - (k + 1)) (rest / 256)) ≡ sets out i (bytes_of (n - k) rest)
 unfolding bytes_of
-bytes_step out n k rest h =
-    ap (λ (i : ℕ). sets (set out k (rest % 256)) i (bytes_of (n - (k + 1)) (rest / 256))) (omega arith)
-    ∙ ap (λ (m : ℕ). sets out k (bytes_of m rest)) more
+byte_stored out i n k rest h =
+    ap (λ (j : ℕ). sets (set out i (rest % 256)) j (bytes_of (n - (k + 1)) (rest / 256))) (omega arith)
+    ∙ ap (λ (m : ℕ). sets out i (bytes_of m rest)) more
   where
     more : suc (n - (k + 1)) ≡ n - k
     more = omega arith
+
+-- where place i is k places after the one that the number's bytes begin at
+pub bytes_none : (out : List ℕ) (at n x : ℕ) → sets out (at + 0) (bytes_of (n - 0) x) ≡ sets out at (bytes_of n x)
+bytes_none out at n x = λ j. sets out (add-zero at j) (bytes_of (sub-zero n j) x)
+
+pub bytes_step : (out : List ℕ) (at n k rest : ℕ) → k < n
+    → sets (set out (at + k) (rest % 256)) (at + (k + 1)) (bytes_of (n - (k + 1)) (rest / 256)) ≡ sets out (at + k) (bytes_of (n - k) rest)
+bytes_step out at n k rest h =
+    ap (λ (i : ℕ). sets (set out (at + k) (rest % 256)) i (bytes_of (n - (k + 1)) (rest / 256))) (omega arith) ∙ byte_stored out (at + k) n k rest h
 
 pub length_bytes : (n x : ℕ) → length (bytes_of n x) ≡ n
 unfolding bytes_of

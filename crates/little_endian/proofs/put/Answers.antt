@@ -2,15 +2,15 @@
 use mathlib.Core.Path.{◌∙◌}
 use native.Mathlib.Omega.{arith}
 use lib.ListN.{length}
-use Rattle.little_endian.proofs.Bytes.{bytes_none, bytes_step, put_end}
+use Rattle.little_endian.proofs.Bytes.{none_stored, byte_stored, put_end}
 use Rattle.little_endian.proofs.put.Goals as goal
 
 pub loop-byte-init : goal.loop-byte-init
-loop-byte-init c = bytes_none _ _ _
+loop-byte-init c = none_stored _ _ _ _
 
 pub loop-byte-preserved : goal.loop-byte-preserved
 loop-byte-preserved c =
-    bytes_step c.loop-byte.byte-items (length c.args.out.now) c.loop-byte.byte-index c.loop-byte.rest (omega arith) ∙ c.loop-byte.invariant
+    byte_stored c.loop-byte.byte-items c.loop-byte.byte-index (length c.args.out.now) c.loop-byte.byte-index c.loop-byte.rest (omega arith) ∙ c.loop-byte.invariant
 
 pub returns : goal.returns
 returns c = put_end c.loop-byte.byte-items c.args.out.now c.loop-byte.byte-index c.args.value c.loop-byte.rest (omega arith) c.loop-byte.invariant
