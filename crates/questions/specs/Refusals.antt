@@ -1,5 +1,5 @@
 -- Document 01's and 02's numbers of refusals, and of an answer that is a refusal or not. Assumes nothing.
-use Rattle.std.specs.Prelude.{ℕ, Result, Ok, Err}
+use Rattle.std.specs.Prelude.{ℕ, List, ◌++◌, codes, decimal, Result, Ok, Err}
 use Rattle.questions.specs.declared.Refusal.{Refusal}
 use Rattle.questions.specs.declared.Refusal.TheVariants as refusal
 
@@ -23,6 +23,10 @@ refusal_number refusal.Turn = 16
 refusal_number refusal.ProgramInput = 17
 refusal_number refusal.WideWorkLength = 18
 refusal_number refusal.Window = 19
+
+-- as it is printed, the number in decimal
+abbrev pub refusal_text : Refusal → List ℕ
+refusal_text refusal = codes "refused " ++ decimal (refusal_number refusal)
 
 -- an answer that hands back nothing beside
 abbrev pub Answer : Type 0

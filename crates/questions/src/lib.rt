@@ -1,12 +1,12 @@
 // Inner: a frame's settings, why a call refuses, and the checks that calls share. Each check refuses for the first question answered no.
 #![tactic(auto)]
 
-ghost use Rattle.std.specs.Prelude.{◌≡◌, max, ◌≤◌};
+ghost use Rattle.std.specs.Prelude.{◌≡◌, Some, max, ◌≤◌};
 ghost use Rattle.planes.specs.Layout.{red_row, red_column, two_levels};
 ghost use Rattle.questions.specs.Settings.{framed, rounds_of, ceiling_of};
 ghost use Rattle.questions.specs.Questions.{ask, all_at_most, size_questions, shape_questions, settings_questions, frame_questions};
 ghost use Rattle.questions.specs.Lent.{rooms_in, wide_enough, buffer_questions, lent_questions};
-ghost use Rattle.questions.specs.Refusals.{refusal_number, number_of};
+ghost use Rattle.questions.specs.Refusals.{refusal_number, refusal_text, number_of};
 
 use std::error::Error;
 use std::fmt;
@@ -142,6 +142,8 @@ impl Refusal {
 
 // A refusal as the programs print it.
 impl fmt::Display for Refusal {
+    ghost output = { λ refusal. Some (refusal_text refusal) };
+
     fn fmt<W: fmt::Write>(&self, f: &mut fmt::Formatter<W>) -> fmt::Result {
         write!(f, "refused {}", self.number())
     }
