@@ -161,29 +161,37 @@ module _ {A : Type 0} where
       tall false true = unfold left_right in refl
       tall false false = refl
 
--- what the code makes of a shape where the turn exchanges, and where it does not: a width, a height and red's parities
-pub record Exchanged (e : Bool) (s : Turned) (q : ℕ × ℕ × ℕ × ℕ) : Type 0 where
+-- a parity of red after the mirror of a line of n places, if there is one
+abbrev pub mirrored_if : Bool → ℕ → ℕ → ℕ
+mirrored_if b n p = cond b (flip_if_even n p) p
+
+pub mirrored_is : (b : Bool) (n : ℕ) {p q r : ℕ} → r ≡ cond b (flip_if_even n p) p → p ≡ q → r ≡ mirrored_if b n q
+mirrored_is b n e f = e ∙ ap (mirrored_if b n) f
+
+-- what the code makes of a shape where the turn exchanges, and where it does not: a width, a height and red's parities, each mirrored or not
+pub record Exchanged (e lr tb : Bool) (s : Turned) (q : ℕ × ℕ × ℕ × ℕ) : Type 0 where
   wide : q.0 ≡ cond e s.height s.width
   high : q.1 ≡ cond e s.width s.height
-  row : q.2 ≡ cond e (red_column s.layout) (red_row s.layout)
-  column : q.3 ≡ cond e (red_row s.layout) (red_column s.layout)
+  row : q.2 ≡ cond e (mirrored_if tb s.width (red_column s.layout)) (mirrored_if tb s.height (red_row s.layout))
+  column : q.3 ≡ cond e (mirrored_if lr s.height (red_row s.layout)) (mirrored_if lr s.width (red_column s.layout))
 
-abbrev pub exchanged_if : Bool → Turned → ℕ × ℕ × ℕ × ℕ
-exchanged_if e s = cond e (s.height, s.width, red_column s.layout, red_row s.layout) (s.width, s.height, red_row s.layout, red_column s.layout)
+abbrev pub exchanged_if : (e lr tb : Bool) → Turned → ℕ × ℕ × ℕ × ℕ
+exchanged_if e lr tb s =
+    cond e (s.height, s.width, mirrored_if tb s.width (red_column s.layout), mirrored_if lr s.height (red_row s.layout))
+    (s.width, s.height, mirrored_if tb s.height (red_row s.layout), mirrored_if lr s.width (red_column s.layout))
 
-pub exchanged_is : (b : Bool) (s : Turned) {e : Bool} {q : ℕ × ℕ × ℕ × ℕ} → e ≡ b → q ≡ exchanged_if b s → Exchanged e s q
-exchanged_is b s {e} {q} f p = subst (λ (e : Bool). Exchanged e s q) (sym f) (go b p)
+pub exchanged_is : (b lr tb : Bool) (s : Turned) {e : Bool} {q : ℕ × ℕ × ℕ × ℕ} → e ≡ b → q ≡ exchanged_if b lr tb s → Exchanged e lr tb s q
+exchanged_is b lr tb s {e} {q} f p = subst (λ (e : Bool). Exchanged e lr tb s q) (sym f) (go b p)
   where
-    go : (b : Bool) → q ≡ exchanged_if b s → Exchanged b s q
+    go : (b : Bool) → q ≡ exchanged_if b lr tb s → Exchanged b lr tb s q
     go true p = record { wide = λ i. (p i).0; high = λ i. (p i).1; row = λ i. (p i).2; column = λ i. (p i).3 }
     go false p = record { wide = λ i. (p i).0; high = λ i. (p i).1; row = λ i. (p i).2; column = λ i. (p i).3 }
 
--- and then the layout, each parity mirrored or not
-pub shape_after : (t : ℕ) (s : Turned) {e lr tb : Bool} → e ≡ ex_of t → lr ≡ lr_of t → tb ≡ tb_of t → {q : ℕ × ℕ × ℕ × ℕ} → Exchanged e s q → {a b : ℕ}
-    → a ≡ cond tb (flip_if_even q.1 q.2) q.2 → b ≡ cond lr (flip_if_even q.0 q.3) q.3
-    → ◌≡◌ {A = Turned} (record { width = q.0; height = q.1; layout = 4 * (s.layout / 4) + (2 * a + b) }) (turned_shape t s)
+-- and then the layout
+pub shape_after : (t : ℕ) (s : Turned) {e lr tb : Bool} → e ≡ ex_of t → lr ≡ lr_of t → tb ≡ tb_of t → {q : ℕ × ℕ × ℕ × ℕ} → Exchanged e lr tb s q
+    → ◌≡◌ {A = Turned} (record { width = q.0; height = q.1; layout = 4 * (s.layout / 4) + (2 * q.2 + q.3) }) (turned_shape t s)
 unfolding shape_turned turned turned_by with_parities
-shape_after t s ei li ti {q} x {a} {b} f g = λ i. record { width = wide i; height = high i; layout = layout i }
+shape_after t s {e} {lr} {tb} ei li ti {q} x = λ i. record { width = wide i; height = high i; layout = layout i }
   where
     blank : Picture Unit
     blank = record { width = s.width; height = s.height; layout = s.layout; at = λ r c. tt }
@@ -194,12 +202,16 @@ shape_after t s ei li ti {q} x {a} {b} f g = λ i. record { width = wide i; heig
     high : q.1 ≡ (turned_by (steps_of t) blank).height
     high = x.high ∙ (λ i. cond (ei i) s.width s.height) ∙ sym (seen (ex_of t) (lr_of t) (tb_of t) blank).high
 
-    layout : 4 * (s.layout / 4) + (2 * a + b) ≡ (turned_by (steps_of t) blank).layout
+    either : (e b : Bool) (m n p r : ℕ) → cond e (mirrored_if b m p) (mirrored_if b n r) ≡ mirrored_if b (cond e m n) (cond e p r)
+    either true b m n p r = refl
+    either false b m n p r = refl
+
+    layout : 4 * (s.layout / 4) + (2 * q.2 + q.3) ≡ (turned_by (steps_of t) blank).layout
     layout =
-        (λ i. with_parities s.layout (f i) (g i))
-        ∙ (λ i. with_parities s.layout (cond (ti i) (flip_if_even (x.high i) (x.row i)) (x.row i)) (cond (li i) (flip_if_even (x.wide i) (x.column i)) (x.column i)))
+        (λ i. with_parities s.layout (x.row i) (x.column i))
+        ∙ (λ i. with_parities s.layout (either e tb s.width s.height (red_column s.layout) (red_row s.layout) i) (either e lr s.height s.width (red_row s.layout) (red_column s.layout) i))
         ∙ (λ i. let r = cond (ei i) (red_column s.layout) (red_row s.layout) in let c = cond (ei i) (red_row s.layout) (red_column s.layout) in
-        with_parities s.layout (cond (tb_of t) (flip_if_even (cond (ei i) s.width s.height) r) r) (cond (lr_of t) (flip_if_even (cond (ei i) s.height s.width) c) c))
+        with_parities s.layout (mirrored_if (ti i) (cond (ei i) s.width s.height) r) (mirrored_if (li i) (cond (ei i) s.height s.width) c))
         ∙ sym (turned_layout (ex_of t) (lr_of t) (tb_of t) blank)
 
 -- ---- a frame's shape turns as a shape with nothing at its places
@@ -241,11 +253,13 @@ turned_samples e t w h l s f =
     p : Picture ℕ
     p = picture_of (frame w h l s)
 
-pub samples_high : (t : ℕ) (f : Frame) {out : List ℕ} → ex_of t ≡ true → out ≡ listing f.height f.width (source_plane f.samples (lr_of t) (tb_of t) f.height f.width 1 f.width) → out ≡ (turn_frame t f).samples
-samples_high t f k e = e ∙ sym (turned_samples true t f.width f.height f.layout f.samples k)
+pub samples_high : (t : ℕ) (f : Frame) {lr tb : Bool} {out : List ℕ} → ex_of t ≡ true → lr ≡ lr_of t → tb ≡ tb_of t
+    → out ≡ listing f.height f.width (source_plane f.samples lr tb f.height f.width 1 f.width) → out ≡ (turn_frame t f).samples
+samples_high t f k l m e = e ∙ (λ i. listing f.height f.width (source_plane f.samples (l i) (m i) f.height f.width 1 f.width)) ∙ sym (turned_samples true t f.width f.height f.layout f.samples k)
 
-pub samples_low : (t : ℕ) (f : Frame) {out : List ℕ} → ex_of t ≡ false → out ≡ listing f.width f.height (source_plane f.samples (lr_of t) (tb_of t) f.width f.height f.width 1) → out ≡ (turn_frame t f).samples
-samples_low t f k e = e ∙ sym (turned_samples false t f.width f.height f.layout f.samples k)
+pub samples_low : (t : ℕ) (f : Frame) {lr tb : Bool} {out : List ℕ} → ex_of t ≡ false → lr ≡ lr_of t → tb ≡ tb_of t
+    → out ≡ listing f.width f.height (source_plane f.samples lr tb f.width f.height f.width 1) → out ≡ (turn_frame t f).samples
+samples_low t f k l m e = e ∙ (λ i. listing f.width f.height (source_plane f.samples (l i) (m i) f.width f.height f.width 1)) ∙ sym (turned_samples false t f.width f.height f.layout f.samples k)
 
 -- ---- what an accepted call knows
 pub shape_known : (t w h l : ℕ) → 0 ≡ ask (shape_turn_questions t w h l) → Shape w h l

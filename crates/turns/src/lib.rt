@@ -126,23 +126,21 @@ impl Turn {
             (
                 shape.height,
                 shape.width,
-                shape.red_column(),
-                shape.red_row(),
+                mirrored_parity(top_bottom, shape.width, shape.red_column()),
+                mirrored_parity(left_right, shape.height, shape.red_row()),
             )
         } else {
             (
                 shape.width,
                 shape.height,
-                shape.red_row(),
-                shape.red_column(),
+                mirrored_parity(top_bottom, shape.height, shape.red_row()),
+                mirrored_parity(left_right, shape.width, shape.red_column()),
             )
         };
-        let turned_row = mirrored_parity(top_bottom, height, row);
-        let turned_column = mirrored_parity(left_right, width, column);
         Shape {
             width,
             height,
-            layout: level + (2 * turned_row + turned_column),
+            layout: level + (2 * row + column),
         }
     }
 
@@ -152,19 +150,23 @@ impl Turn {
         ensures { out.new ≡ (turn_frame self.number (framed shape samples.now)).samples }
     {
         let Shape { width, height, .. } = shape;
+        let lr = self.mirrors_left_right();
+        let tb = self.mirrors_top_bottom();
         if self.exchanges() {
-            self.fill_rows(samples, height, width, 1, width, out);
+            Self::fill_rows(samples, lr, tb, height, width, 1, width, out);
             return;
         }
-        self.fill_rows(samples, width, height, width, 1, out);
+        Self::fill_rows(samples, lr, tb, width, height, width, 1, out);
     }
 
     // All turned rows. Rows stand `row_step` apart in `samples`, the samples of a row `column_step`. A struct of the four numbers would have one caller,
-    // which would write them all the same. It is put into both calls, where a step is 1: so a row along the given rows is a loop over vectors.
+    // which would write them all the same. It is put into both calls, where a step is 1: so a row along the given rows is a loop over vectors. Rows of fewer
+    // than 8 places, which fill no vector, are narrow ones.
     #[inline(always)]
     fn fill_rows(
-        self,
         samples: &[u16],
+        left_right: bool,
+        top_bottom: bool,
         columns: usize,
         rows: usize,
         row_step: usize,
@@ -173,12 +175,54 @@ impl Turn {
     )
         requires in_plane { InPlane samples.now 0 columns rows row_step column_step }
         requires out_len { length out.old ≡ columns * rows }
-        ensures { out.new ≡ listing columns rows (source_plane samples.now (steps_of self.number).mirror_left_right (steps_of self.number).mirror_top_bottom columns rows row_step column_step) }
+        ensures { out.new ≡ listing columns rows (source_plane samples.now left_right top_bottom columns rows row_step column_step) }
     {
-        let left_right = self.mirrors_left_right();
-        let top_bottom = self.mirrors_top_bottom();
+        if columns < 8 {
+            Self::fill_each(
+                samples,
+                left_right,
+                top_bottom,
+                columns,
+                rows,
+                row_step,
+                column_step,
+                true,
+                out,
+            );
+            return;
+        }
+        Self::fill_each(
+            samples,
+            left_right,
+            top_bottom,
+            columns,
+            rows,
+            row_step,
+            column_step,
+            false,
+            out,
+        );
+    }
+
+    // The same, of narrow rows or of wide ones: put into both calls, where `narrow` is a constant.
+    #[inline(always)]
+    fn fill_each(
+        samples: &[u16],
+        left_right: bool,
+        top_bottom: bool,
+        columns: usize,
+        rows: usize,
+        row_step: usize,
+        column_step: usize,
+        narrow: bool,
+        out: &mut [u16],
+    )
+        requires in_plane { InPlane samples.now 0 columns rows row_step column_step }
+        requires out_len { length out.old ≡ columns * rows }
+        ensures { out.new ≡ listing columns rows (source_plane samples.now left_right top_bottom columns rows row_step column_step) }
+    {
         for i in 0..rows {
-            let from = mirrored_row(top_bottom, rows, i) * row_step;
+            let from = mirrored_row(top_bottom, narrow, rows, i) * row_step;
             let start = i * columns;
             fill_row(
                 samples,
@@ -229,14 +273,27 @@ fn mirrored(mirror: bool, n: usize, i: usize) -> usize
     if mirror { n - 1 - i } else { i }
 }
 
-// The same for a row. It is put into no caller: one that sees rows go backwards asks of all rows at once whether they overlap what is written, finds that they
-// may, and takes samples one by one.
+// The same, put into no caller.
 #[inline(never)]
-fn mirrored_row(mirror: bool, rows: usize, i: usize) -> usize
+fn mirrored_apart(mirror: bool, n: usize, i: usize) -> usize
+    requires { i < n }
+    ensures { (result ≡ mirror_place mirror n i) × (result < n) }
+{
+    mirrored(mirror, n, i)
+}
+
+// The same for a row. A caller that sees rows go backwards asks of all rows at once whether they overlap what is written, finds that they may, and takes
+// samples one by one; narrow rows are taken one by one whichever way, and a call for each would take as long again.
+#[inline(always)]
+fn mirrored_row(mirror: bool, narrow: bool, rows: usize, i: usize) -> usize
     requires { i < rows }
     ensures { (result ≡ mirror_place mirror rows i) × (result < rows) }
 {
-    mirrored(mirror, rows, i)
+    if narrow {
+        mirrored(mirror, rows, i)
+    } else {
+        mirrored_apart(mirror, rows, i)
+    }
 }
 
 // A turned row: its samples stand `step` apart in `samples`, the first at `from`.
@@ -260,6 +317,7 @@ pub fn turn_samples(
     ensures { Outcome (turn_call turn.number (framed shape samples.now) out.old) result out.new }
 {
     turn.ask_turn(shape, samples.len(), out.len())?;
+    let turned = turn.shape_after(shape);
     turn.fill(shape, samples, out);
-    Ok(turn.shape_after(shape))
+    Ok(turned)
 }

@@ -22,5 +22,5 @@ pub returns : goal.returns
 returns c =
     let a = c.args in
     accepts c.in_ok-ask_turn.ensures
-    (ap (λ s. Ok s) (c.shape_after.ensures ∙ turned_answer a.turn.number (framed a.shape a.samples.now)))
+    (ap (λ s. Ok s) (c.shape_after-turned.ensures ∙ turned_answer a.turn.number (framed a.shape a.samples.now)))
     c.fill.ensures

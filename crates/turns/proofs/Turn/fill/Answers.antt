@@ -16,7 +16,7 @@ fill_rows-requires c =
 pub returns-then-exchanges : goal.returns-then-exchanges
 returns-then-exchanges c =
     let a = c.args in
-    samples_high a.self.number (framed a.shape a.samples.now) (sym c.exchanges.ensures ∙ c.if-exchanges.true) c.fill_rows.ensures
+    samples_high a.self.number (framed a.shape a.samples.now) (sym c.exchanges.ensures ∙ c.if-exchanges.true) c.mirrors_left_right-lr.ensures c.mirrors_top_bottom-tb.ensures c.fill_rows.ensures
 
 pub fill_rows-requires-2 : goal.fill_rows-requires-2
 fill_rows-requires-2 c =
@@ -26,4 +26,4 @@ fill_rows-requires-2 c =
 pub returns : goal.returns
 returns c =
     let a = c.args in
-    samples_low a.self.number (framed a.shape a.samples.now) (sym c.exchanges.ensures ∙ c.if-exchanges.false) c.fill_rows-2.ensures
+    samples_low a.self.number (framed a.shape a.samples.now) (sym c.exchanges.ensures ∙ c.if-exchanges.false) c.mirrors_left_right-lr.ensures c.mirrors_top_bottom-tb.ensures c.fill_rows-2.ensures

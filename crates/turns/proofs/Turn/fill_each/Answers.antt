@@ -1,15 +1,14 @@
--- `Turn::fill_rows` meets its contract: after i turns, i rows are laid down.
+-- `Turn::fill_each` meets its contract: after i turns, i rows are laid down.
 use mathlib.Core.Path.{◌≡◌, ap, ◌∙◌}
 use Prim.Native.Nat.{ℕ, ◌+◌, ◌*◌, ◌/◌, ◌%◌, ◌≤◌}
 use native.Mathlib.Omega.{arith}
 use lib.ListN.{length}
 use Rattle.integers.specs.Lists.{overwrite}
 use Rattle.integers.proofs.Lists.{overwrite_part}
-use Rattle.planes.specs.Planes.{listing}
 use Rattle.planes.proofs.Planes.{row_room, overwrite_no_row, overwrite-row, overwrite-plane}
 use Rattle.turns.specs.Filling.{source_row, source_plane}
 use Rattle.turns.proofs.Calls.{plane-sample}
-use Rattle.turns.proofs.Turn.fill_rows.Goals as goal
+use Rattle.turns.proofs.Turn.fill_each.Goals as goal
 
 pub loop-i-init : goal.loop-i-init
 loop-i-init c = overwrite_no_row c.args.out.now 0 c.args.columns _
@@ -22,8 +21,8 @@ loop-i-preserved c =
     let a = c.args in
     let i = c.loop-i.i in
     let m = c.mirrored_row in
-    let lr = c.mirrors_left_right-left_right.result in
-    let tb = c.mirrors_top_bottom-top_bottom.result in
+    let lr = a.left_right in
+    let tb = a.top_bottom in
     let row = λ (n : ℕ). source_row a.samples.now lr n (m.result * a.row_step) a.column_step in
     let room : i * a.columns + a.columns ≤ length a.out.now = omega (arith, row_room a.columns a.rows i (omega arith)) in
     overwrite-row a.out.now 0 a.columns i (source_plane a.samples.now lr tb a.columns a.rows a.row_step a.column_step) (row a.columns) (i * a.columns)
@@ -33,7 +32,6 @@ loop-i-preserved c =
 pub returns : goal.returns
 returns c =
     let a = c.args in
-    let p = source_plane a.samples.now c.mirrors_left_right-left_right.result c.mirrors_top_bottom-top_bottom.result a.columns a.rows a.row_step a.column_step in
+    let p = source_plane a.samples.now a.left_right a.top_bottom a.columns a.rows a.row_step a.column_step in
     let all : c.loop-i.i ≡ a.rows = omega arith in
     c.loop-i.invariant ∙ ap (λ (n : ℕ). overwrite a.out.now 0 (n * a.columns) (λ k. p (k / a.columns) (k % a.columns))) all ∙ overwrite-plane a.out.now a.columns a.rows p c.requires.out_len
-    ∙ (λ i. listing a.columns a.rows (source_plane a.samples.now (c.mirrors_left_right-left_right.ensures i) (c.mirrors_top_bottom-top_bottom.ensures i) a.columns a.rows a.row_step a.column_step))
