@@ -1,16 +1,22 @@
--- Text put into a buffer: one part after another, and a part of bytes at once. Assumes nothing.
-use Prim.Native.Nat.{ℕ, ◌+◌, ◌≤◌}
+-- Text put into a buffer: one part after another, the last byte before the others, and a part of bytes at once. Assumes nothing.
+use Prim.Native.Nat.{ℕ, suc, ◌+◌, ◌≤◌}
 use mathlib.Core.Path.{◌≡◌, refl, sym, ap, ◌∙◌}
-use mathlib.Core.List.{List, [], ◌++◌}
+use mathlib.Core.List.{List, [], ◌∷◌, ◌++◌}
 use native.Mathlib.Nat.{add-zero, zero-add}
 use native.Mathlib.Omega.{arith}
-use lib.ListN.{length, take, drop, length-append}
-use lib.Seq.{sets, sets-eq}
+use lib.ListN.{length, take, drop, set, length-append}
+use lib.Seq.{sets, sets-eq, set_comm}
 use borrow.Rule.Slice.PartMut.{put_mid}
 use Rattle.std.proofs.lemmas.Slice.{put_mid-paste}
 use Rattle.std.proofs.lemmas.List.{take_all}
 use Rattle.integers.proofs.Lists.{sets-append}
 use Rattle.printing.specs.Text.{Put, Written}
+
+-- the last byte stored before the others
+pub sets_last : (l : List ℕ) (at k : ℕ) (p : List ℕ) (x : ℕ) → k ≡ at + length p → sets (set l k x) at p ≡ sets l at (p ++ (x ∷ []))
+sets_last l at k [] x e = ap (λ (i : ℕ). set l i x) (e ∙ add-zero at)
+sets_last l at k (y ∷ p) x e =
+    ap (λ (m : List ℕ). sets m (suc at) p) (set_comm l k at x y (λ i. omega arith)) ∙ sets_last (set l at y) (suc at) k p x (omega arith)
 
 -- ---- one part after another
 pub put_then : {at k r : ℕ} {p q before x y : List ℕ} → Put at p before k x → Put k q x r y → Put at (p ++ q) before r y

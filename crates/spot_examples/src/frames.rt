@@ -19,7 +19,10 @@ pub(crate) fn flat(
     column: usize,
     kept: &mut Kept,
 ) -> io::Result<()> {
-    let [r, g, b] = colours.map(|sample| [sample; SAMPLES]);
+    let [red, green, blue] = colours;
+    let r = [red; SAMPLES];
+    let g = [green; SAMPLES];
+    let b = [blue; SAMPLES];
     print::answer(
         rt,
         spot::read_spot(WIDTH, HEIGHT, &r, &g, &b, row, column, kept),
