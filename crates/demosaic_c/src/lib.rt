@@ -61,7 +61,10 @@ pub extern "C" fn demosaic_packet_fields(
 pub extern "C" fn demosaic_packet_samples(store: &[u8], samples: &mut [u16]) -> u32
     ensures { Numbered (mosaic_call store.now samples.old) result samples.new }
 {
-    questions::number(packet::read_mosaic(store, samples))
+    match packet::read_mosaic(store, samples) {
+        Ok(_) => 0,
+        Err(why) => why.number(),
+    }
 }
 
 // A turn, a layout or rounds of C as the byte that the engine takes. What is above 255 becomes 255, which the same question refuses.
